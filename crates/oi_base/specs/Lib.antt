@@ -1,0 +1,6 @@
+pub mod Counts
+pub mod Decimal
+pub mod Fronts
+pub mod Limits
+pub mod Serials
+pub mod TagLayout
