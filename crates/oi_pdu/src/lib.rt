@@ -5,6 +5,7 @@
 mod basic;
 mod codec;
 mod header;
+mod laws;
 mod layouts;
 mod readings;
 
@@ -14,3 +15,4 @@ pub use header::{
     NopIn, NopOut, R2t, Reject, ScsiCommand, ScsiResponse, TaskManagement, TaskResponse,
     TextRequest, TextResponse,
 };
+pub use laws::encoded_decodes;
