@@ -1,0 +1,4 @@
+pub mod Segments
+pub mod Table
+pub mod Widths
+pub mod Wire
