@@ -1,6 +1,6 @@
 -- What an event makes of one submission. k is the number of tries used, with the present one where the submission is
 -- live; a is the number of tries allowed.
-use Rattle.std.specs.Prelude.{ℕ, Bool, true, false, ◌-◌, ◌==◌, ◌&&◌, not, nat_lt, if◌then◌else◌}
+use Rattle.std.specs.Prelude.{ℕ, Bool, true, false, ◌-◌, ◌==◌, ◌&&◌, ◌||◌, not, nat_lt, if◌then◌else◌}
 use Rattle.oi_recovery.specs.declared.host_code.HostCode.TheVariants.{NoConnect, BadTarget, Abort, Error, Reset, Disrupted, FailFast}
 use Rattle.oi_recovery.specs.declared.hit.Aim.{Aim}
 use Rattle.oi_recovery.specs.declared.hit.Aim.TheVariants.{Free, Abort as ByAbort, Reset as ByReset}
@@ -27,7 +27,7 @@ is_free ByReset = false
 
 -- BUSY and TASK SET FULL, after which a command may be tried again (SAM-5, section 5.3.1)
 abbrev pub is_busy : ℕ → Bool
-is_busy status = if status == 0x08 then true else status == 0x28
+is_busy status = status == 0x08 || status == 0x28
 
 -- a reply to a live submission
 abbrev pub replied : ℕ → ℕ → Residual → ℕ → ℕ → Bool → Aim → ℕ → ℕ → Next

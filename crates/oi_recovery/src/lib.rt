@@ -11,3 +11,6 @@ pub use hit::{Aim, Hit, Residual};
 pub use host_code::HostCode;
 pub use stand::{Next, Stand};
 pub use table::after;
+
+#[cfg(test)]
+mod tests;
