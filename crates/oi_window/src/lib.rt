@@ -1,0 +1,7 @@
+//! The command window of a session: which numbers the target takes.
+#![tactic(auto)]
+
+mod serials;
+mod window;
+
+pub use window::Window;
