@@ -1,5 +1,5 @@
 -- The numbering of commands (RFC 7143, section 4.2.2.1).
-use Rattle.std.specs.Prelude.{ℕ, Bool, ◌≡◌, ◌⊎◌, ◌==◌, ◌||◌, if◌then◌else◌}
+use Rattle.std.specs.Prelude.{ℕ, Bool, ◌==◌, ◌||◌, if◌then◌else◌}
 use Rattle.oi_base.specs.Serials.{less, predecessor, successor}
 use Rattle.oi_window.specs.Raised.{raised}
 use Rattle.oi_window.specs.declared.window.Window.{Window}
