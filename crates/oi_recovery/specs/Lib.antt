@@ -1,0 +1,2 @@
+pub mod HostCodes
+pub mod Recovery
