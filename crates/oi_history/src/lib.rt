@@ -1,0 +1,20 @@
+//! The history of a session: its events, the definitions over a list of them, and the plain state that follows them.
+#![tactic(auto)]
+
+mod allocated;
+mod command;
+mod config;
+mod event;
+mod fate;
+mod phase;
+mod rule;
+mod task;
+
+pub use allocated::Allocated;
+pub use command::Command;
+pub use config::SessionConfig;
+pub use event::{Event, Numbered, Subject};
+pub use fate::{Delivered, Fate, Outcome};
+pub use phase::{End, Handler, LostCause, Phase};
+pub use rule::Rule;
+pub use task::{Received, Task};

@@ -1,0 +1,64 @@
+ghost use Rattle.std.specs.Prelude.{◌≡◌, ◌++◌, OnOk, OnErr, [], length};
+
+use crate::command::Command;
+use crate::fate::Fate;
+use oi_base::{Blob, NoMemory};
+use std::alloc::Global;
+use std::marker::Model;
+
+/// One submission: its command, where it stands, the data that its present try got, and whether it was handed out.
+#[derive(Debug, Drop)]
+pub struct Task {
+    pub command: Command,
+    pub fate: Fate,
+    pub got: Received,
+    /// Data-In PDUs of the present try.
+    pub pieces: u32,
+    /// Its outcome was handed out.
+    pub told: bool,
+}
+
+/// Data that grows piece by piece; contracts see the bytes.
+#[derive(Debug, Drop)]
+pub struct Received {
+    bytes: Vec<u8>,
+}
+
+impl Model for Received {
+    ghost use Rattle.std.specs.Prelude.{List, ℕ};
+
+    ghost Value = { List ℕ };
+
+    ghost view = { λ r. r.bytes.items };
+}
+
+impl Received {
+    pub fn new(alloc: Global) -> Received
+        ensures { result ≡ [] }
+    {
+        Received {
+            bytes: Vec::new(alloc),
+        }
+    }
+
+    pub fn len(&self) -> usize
+        ensures { result ≡ length self.now }
+    {
+        self.bytes.len()
+    }
+
+    pub fn append(&mut self, piece: &[u8]) -> Result<(), NoMemory>
+        ensures ok { OnOk result (self.new ≡ self.old ++ piece.now) }
+        ensures err { OnErr result (self.new ≡ self.old) }
+    {
+        self.bytes.extend_from_slice(piece)?;
+        Ok(())
+    }
+
+    pub fn into_blob(self) -> Blob
+        ensures { result ≡ self }
+    {
+        let Received { bytes } = self;
+        Blob::from_vec(bytes)
+    }
+}
