@@ -1,2 +1,10 @@
 pub mod Commands
 pub mod RuleWords
+pub mod Phases
+pub mod Tags
+pub mod Tasks
+pub mod Acceptance
+pub mod Snapshots
+pub mod Histories
+pub mod Legality
+pub mod Sending

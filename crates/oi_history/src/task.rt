@@ -30,6 +30,10 @@ impl Model for Received {
     ghost Value = { List ℕ };
 
     ghost view = { λ r. r.bytes.items };
+
+    ghost use Rattle.std.specs.Prelude.{◌<◌, ◌^◌, vec_len};
+
+    ghost invariant = { λ r. vec_len r.bytes < 2 ^ 32 };
 }
 
 impl Received {
@@ -41,16 +45,19 @@ impl Received {
         }
     }
 
-    pub fn len(&self) -> usize
+    pub fn count(&self) -> u32
         ensures { result ≡ length self.now }
     {
-        self.bytes.len()
+        self.bytes.len() as u32
     }
 
     pub fn append(&mut self, piece: &[u8]) -> Result<(), NoMemory>
         ensures ok { OnOk result (self.new ≡ self.old ++ piece.now) }
         ensures err { OnErr result (self.new ≡ self.old) }
     {
+        if piece.len() > u32::MAX as usize - self.bytes.len() {
+            return Err(NoMemory);
+        }
         self.bytes.extend_from_slice(piece)?;
         Ok(())
     }

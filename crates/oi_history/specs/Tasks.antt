@@ -1,0 +1,151 @@
+-- One submission: what an event makes of it, by the recovery table.
+use Rattle.std.specs.Prelude.{ℕ, Bool, true, false, not, ◌==◌, ◌&&◌, ◌+◌, ◌++◌, List, [], ◌∷◌, Option, Some, None, length, map, slice_get, if◌then◌else◌, suc, zero}
+use Rattle.std.specs.Option.{option_and_then, option_map_or}
+use Rattle.std.specs.List.{position}
+use Rattle.oi_base.specs.Serials.{successor}
+use Rattle.oi_base.specs.declared.tag.Tag.{Tag}
+use Rattle.oi_history.specs.Tags.{holder}
+use Rattle.oi_history.specs.declared.allocated.Allocated.{Allocated}
+use Rattle.oi_history.specs.declared.command.Command.{Command}
+use Rattle.oi_history.specs.declared.fate.Delivered.{Delivered}
+use Rattle.oi_history.specs.declared.fate.Fate.{Fate}
+use Rattle.oi_history.specs.declared.fate.Fate.TheVariants.{Waiting, Live, Done}
+use Rattle.oi_history.specs.declared.fate.Outcome.{Outcome}
+use Rattle.oi_history.specs.declared.fate.Outcome.TheVariants.{Answered, Host}
+use Rattle.oi_history.specs.declared.task.Task.{Task}
+use Rattle.oi_pdu.specs.declared.header.DataIn.{DataIn}
+use Rattle.oi_pdu.specs.declared.header.ScsiResponse.{ScsiResponse}
+use Rattle.oi_recovery.specs.Recovery.{recovery_table}
+use Rattle.oi_recovery.specs.declared.hit.Aim.TheVariants.{Free}
+use Rattle.oi_recovery.specs.declared.hit.Hit.{Hit}
+use Rattle.oi_recovery.specs.declared.hit.Hit.TheVariants.{Reply, Ended}
+use Rattle.oi_recovery.specs.declared.hit.Residual.{Residual}
+use Rattle.oi_recovery.specs.declared.hit.Residual.TheVariants.{Exact, Under, Over}
+use Rattle.oi_recovery.specs.declared.stand.Next.{Next}
+use Rattle.oi_recovery.specs.declared.stand.Next.TheVariants.{Stay, Wait, Answer, Host as Fails}
+use Rattle.oi_recovery.specs.declared.stand.Stand.TheVariants.{Waiting as StandsWaiting, Live as StandsLive}
+use Rattle.oi_scsi.specs.Sense.{sense_in}
+
+abbrev pub is_waiting : Fate → Bool
+is_waiting (Waiting tries) = true
+is_waiting f = false
+
+abbrev pub is_done : Fate → Bool
+is_done (Done outcome at) = true
+is_done f = false
+
+-- live under this tag
+abbrev pub is_live_on : ℕ → Fate → Bool
+is_live_on tag (Live generation t tries) = t.0 == tag
+is_live_on tag f = false
+
+-- the tries used, with the present one
+abbrev pub tries_of : Fate → ℕ
+tries_of (Waiting tries) = tries
+tries_of (Live generation tag tries) = tries
+tries_of (Done outcome at) = 0
+
+-- a submission that came in just now
+abbrev pub fresh_task : Command → Task
+fresh_task c = record { command = c; fate = Waiting 0; got = []; pieces = 0; told = false }
+
+-- its command goes out under a tag: one more try
+abbrev pub issued : ℕ → Tag → Task → Task
+issued generation tag t = record t { fate = Live generation tag (tries_of t.fate + 1) }
+
+-- a Data-In in its order
+abbrev pub with_piece : List ℕ → Task → Task
+with_piece payload t = record t { got = t.got ++ payload; pieces = successor t.pieces }
+
+-- what a reply says (RFC 7143, section 11.4)
+pub record ReplyData : Type 0 where
+  pub response : ℕ
+  pub status : ℕ
+  pub residual : Residual
+  pub sense : List ℕ
+
+-- the U bit goes before the O bit
+abbrev pub residual_of : Bool → Bool → ℕ → Residual
+residual_of over under count = if under then Under count else (if over then Over count else Exact)
+
+-- a Data-In with status is a reply without sense data: its segment is data
+abbrev pub data_reply : DataIn → ReplyData
+data_reply h = record { response = 0; status = h.status; residual = residual_of h.over h.under h.residual; sense = [] }
+
+abbrev pub scsi_reply : ScsiResponse → List ℕ → ReplyData
+scsi_reply h payload = record { response = h.response; status = h.status; residual = residual_of h.over h.under h.residual; sense = sense_in payload }
+
+-- the data of a try that is over are dropped, or go into the answer
+abbrev pub settled : ℕ → ReplyData → Task → Next → Task
+settled at r t Stay = t
+settled at r t (Wait tries) = record t { fate = Waiting tries; got = []; pieces = 0 }
+settled at r t Answer = record t { fate = Done (Answered r.status r.residual r.sense t.got) at; got = []; pieces = 0 }
+settled at r t (Fails code) = record t { fate = Done (Host code) at; got = []; pieces = 0 }
+
+abbrev pub reply_hit : ReplyData → Task → Hit
+reply_hit r t = Reply r.response r.status r.residual t.command.length (length t.got) t.command.reads Free
+
+-- a reply to the present try
+abbrev pub replied : ℕ → ℕ → ReplyData → Task → Task
+replied allowed at r t = settled at r t (recovery_table (StandsLive (tries_of t.fate)) (reply_hit r t) allowed)
+
+-- a Data-In for a tag: where the submission is live on it, its data count, and with status it is a reply
+abbrev pub data_step : ℕ → ℕ → DataIn → List ℕ → Task → Task
+data_step allowed at h payload t =
+    if is_live_on h.tag.0 t.fate
+    then (if h.ends then replied allowed at (data_reply h) (with_piece payload t) else with_piece payload t)
+    else t
+
+-- a SCSI Response for a tag
+abbrev pub response_step : ℕ → ℕ → ScsiResponse → List ℕ → Task → Task
+response_step allowed at h payload t = if is_live_on h.tag.0 t.fate then replied allowed at (scsi_reply h payload) t else t
+
+-- the end of the session, by the recovery table
+abbrev pub cut_by : ℕ → Task → Next → Task
+cut_by at t (Fails code) = record t { fate = Done (Host code) at; got = []; pieces = 0 }
+cut_by at t n = t
+
+abbrev pub cut_task : ℕ → ℕ → Task → Fate → Task
+cut_task allowed at t (Waiting tries) = cut_by at t (recovery_table (StandsWaiting tries) Ended allowed)
+cut_task allowed at t (Live generation tag tries) = cut_by at t (recovery_table (StandsLive tries) Ended allowed)
+cut_task allowed at t (Done outcome n) = t
+
+abbrev pub cut_off : ℕ → ℕ → Task → Task
+cut_off allowed at t = cut_task allowed at t t.fate
+
+-- its outcome is handed out
+abbrev pub told_task : Task → Task
+told_task t = record t { told = is_done t.fate }
+
+-- the submission in use of a tag
+abbrev pub held : ℕ → List Allocated → List Task → Option Task
+held tag busy tasks = option_and_then (λ id. slice_get tasks id) (holder tag busy)
+
+-- one place of a list changed
+abbrev pub changed : ℕ → (Task → Task) → List Task → List Task
+changed id f [] = []
+changed zero f (t ∷ ts) = f t ∷ ts
+changed (suc id) f (t ∷ ts) = t ∷ changed id f ts
+
+abbrev pub changed_held : ℕ → List Allocated → (Task → Task) → List Task → List Task
+changed_held tag busy f tasks = option_map_or (λ id. changed id f tasks) (holder tag busy) tasks
+
+-- the least submission that waits
+abbrev pub waiting_in : List Task → Option ℕ
+waiting_in tasks = position (λ t. is_waiting t.fate) tasks
+
+-- done and not handed out
+abbrev pub is_due : Task → Bool
+is_due t = is_done t.fate && not t.told
+
+abbrev pub due_of : ℕ → Task → Fate → List Delivered
+due_of id t (Done outcome at) = if t.told then [] else record { id = id; outcome = outcome } ∷ []
+due_of id t f = []
+
+-- what is due, in ascending id
+abbrev pub due_from : ℕ → List Task → List Delivered
+due_from id [] = []
+due_from id (t ∷ ts) = due_of id t t.fate ++ due_from (id + 1) ts
+
+abbrev pub due_in : List Task → List Delivered
+due_in tasks = due_from 0 tasks
