@@ -1,5 +1,5 @@
 -- Which PDUs of the target count, and which break the connection (RFC 7143, section 7.8 on protocol errors).
-use Rattle.std.specs.Prelude.{ℕ, Bool, true, false, not, ◌==◌, ◌&&◌, ◌+◌, List, [], ◌∷◌, Option, Some, None, is_none, is_some, length, take, drop, nat_lt, if◌then◌else◌}
+use Rattle.std.specs.Prelude.{ℕ, Bool, true, false, not, ◌==◌, ◌&&◌, ◌+◌, List, [], ◌∷◌, Option, Some, None, is_none, is_some, length, slice_index, nat_lt, if◌then◌else◌}
 use Rattle.std.specs.Int.{from_be_bytes, w32}
 use Rattle.oi_base.specs.TagLayout.{reserved_tag}
 use Rattle.oi_base.specs.declared.serial.Serial.{Serial}
@@ -55,7 +55,7 @@ known_rule (Some t) = None
 
 -- the initiator task tag of the header that a Reject returns (RFC 7143, section 11.17)
 abbrev pub returned_tag : List ℕ → ℕ
-returned_tag payload = from_be_bytes w32 (take 4 (drop 16 payload))
+returned_tag payload = from_be_bytes w32 (slice_index payload 16 ∷ slice_index payload 17 ∷ slice_index payload 18 ∷ slice_index payload 19 ∷ [])
 
 abbrev pub is_live_held : ℕ → Option Task → Bool
 is_live_held tag None = false

@@ -12,6 +12,7 @@ use Rattle.oi_history.specs.declared.fate.Fate.{Fate}
 use Rattle.oi_history.specs.declared.fate.Fate.TheVariants.{Waiting, Live, Done}
 use Rattle.oi_history.specs.declared.fate.Outcome.{Outcome}
 use Rattle.oi_history.specs.declared.fate.Outcome.TheVariants.{Answered, Host}
+use Rattle.oi_history.specs.declared.reply.ReplyData.{ReplyData}
 use Rattle.oi_history.specs.declared.task.Task.{Task}
 use Rattle.oi_pdu.specs.declared.header.DataIn.{DataIn}
 use Rattle.oi_pdu.specs.declared.header.ScsiResponse.{ScsiResponse}
@@ -56,13 +57,6 @@ issued generation tag t = record t { fate = Live generation tag (tries_of t.fate
 -- a Data-In in its order
 abbrev pub with_piece : List ℕ → Task → Task
 with_piece payload t = record t { got = t.got ++ payload; pieces = successor t.pieces }
-
--- what a reply says (RFC 7143, section 11.4)
-pub record ReplyData : Type 0 where
-  pub response : ℕ
-  pub status : ℕ
-  pub residual : Residual
-  pub sense : List ℕ
 
 -- the U bit goes before the O bit
 abbrev pub residual_of : Bool → Bool → ℕ → Residual

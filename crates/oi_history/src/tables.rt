@@ -1,0 +1,132 @@
+ghost use Rattle.std.specs.Prelude.{◌≡◌, ◌++◌, ◌<◌, ◌≤◌, ◌+◌, IfOk, OnOk, OnErr, length, map, filter, not, ◌==◌, count_by, vec_len, All};
+ghost use Rattle.oi_history.specs.Tags.{fresh_tags};
+ghost use Rattle.oi_history.specs.Tasks.{changed, cut_off, data_step, due_in, due_of, is_done, issued, response_step, told_task, tries_of, waiting_in};
+
+use crate::allocated::Allocated;
+use crate::fate::{Delivered, Fate};
+use crate::reply::{cut_off, data_to, is_done, is_waiting, issue, response_to};
+use crate::task::Task;
+use oi_base::{NoMemory, Tag};
+use oi_pdu::{DataIn, ScsiResponse};
+use std::alloc::Global;
+use std::collections::VecDeque;
+
+/// All tags of an age, in ascending index.
+pub fn fresh_tags(alloc: Global, age: u8, count: u16) -> Result<VecDeque<Tag>, NoMemory>
+    requires age { age < 16 }
+    requires count { count ≤ 2048 }
+    ensures { IfOk result (λ q. q.items ≡ fresh_tags age count) }
+{
+    let mut tags = VecDeque::with_capacity(alloc, count as usize)?;
+    for index in 0..count {
+        tags.push_back(Tag::command(age, index))?;
+    }
+    Ok(tags)
+}
+
+/// The least submission that waits.
+pub fn first_waiting(tasks: &[Task]) -> Option<usize>
+    ensures { result ≡ waiting_in tasks.now }
+{
+    tasks.iter().position(|t| is_waiting(&t.fate))
+}
+
+/// How many submissions are not done.
+pub fn pending(tasks: &[Task]) -> usize
+    ensures { result ≡ count_by (λ t. not (is_done t.fate)) tasks.now }
+{
+    let mut count = 0;
+    for t in tasks {
+        if !is_done(&t.fate) {
+            count += 1;
+        }
+    }
+    count
+}
+
+/// The tag is in use no more.
+pub fn release(busy: &mut Vec<Allocated>, tag: Tag)
+    ensures { busy.new.items ≡ filter (λ a. not (a.tag.0 == tag.0)) busy.old.items }
+{
+    busy.retain(|a| a.tag.0 != tag.0);
+}
+
+/// The command of a submission goes out.
+pub fn issue_at(tasks: &mut Vec<Task>, id: usize, generation: u64, tag: Tag)
+    requires place { id < vec_len tasks.old }
+    requires tries { All (λ t. tries_of t.fate < 255) tasks.old.items }
+    ensures { tasks.new.items ≡ changed id (issued generation tag) tasks.old.items }
+{
+    let task = &mut tasks[id];
+    issue(task, generation, tag);
+}
+
+/// A Data-In for the submission with this id.
+pub fn data_at(tasks: &mut Vec<Task>, id: usize, alloc: Global, allowed: u8, at: u64, h: DataIn, payload: &[u8]) -> Result<(), NoMemory>
+    requires { id < vec_len tasks.old }
+    ensures ok { OnOk result (tasks.new.items ≡ changed id (data_step allowed at h payload.now) tasks.old.items) }
+    ensures err { OnErr result (tasks.new.items ≡ tasks.old.items) }
+{
+    let task = &mut tasks[id];
+    data_to(task, alloc, allowed, at, h, payload)
+}
+
+/// A SCSI Response for the submission with this id.
+pub fn response_at(tasks: &mut Vec<Task>, id: usize, alloc: Global, allowed: u8, at: u64, h: ScsiResponse, payload: &[u8]) -> Result<(), NoMemory>
+    requires { id < vec_len tasks.old }
+    ensures ok { OnOk result (tasks.new.items ≡ changed id (response_step allowed at h payload.now) tasks.old.items) }
+    ensures err { OnErr result (tasks.new.items ≡ tasks.old.items) }
+{
+    let task = &mut tasks[id];
+    response_to(task, alloc, allowed, at, h, payload)
+}
+
+/// The session ends for all submissions.
+pub fn cut_all(tasks: &mut Vec<Task>, alloc: Global, allowed: u8, at: u64)
+    ensures { tasks.new.items ≡ map (cut_off allowed at) tasks.old.items }
+{
+    for task in tasks.iter_mut() {
+        cut_off(task, alloc, allowed, at);
+    }
+}
+
+/// All that are done are handed out.
+pub fn tell_all(tasks: &mut Vec<Task>)
+    ensures { tasks.new.items ≡ map told_task tasks.old.items }
+{
+    for task in tasks.iter_mut() {
+        tell(task);
+    }
+}
+
+fn tell(task: &mut Task)
+    ensures { task.new ≡ told_task task.old }
+{
+    task.told = is_done(&task.fate);
+}
+
+// The outcome of a submission, where it is due.
+fn add_due(alloc: Global, id: u64, task: &Task, out: &mut Vec<Delivered>) -> Result<(), NoMemory>
+    ensures ok { OnOk result (out.new.items ≡ out.old.items ++ due_of id task.now task.now.fate) }
+    ensures err { OnErr result (out.new.items ≡ out.old.items) }
+{
+    match &task.fate {
+        Fate::Done { outcome, .. } if !task.told => {
+            let outcome = outcome.copy(alloc)?;
+            out.push(Delivered { id, outcome })?;
+            Ok(())
+        }
+        _ => Ok(()),
+    }
+}
+
+/// Copies of the outcomes that are due, in ascending id.
+pub fn due(alloc: Global, tasks: &[Task]) -> Result<Vec<Delivered>, NoMemory>
+    ensures { IfOk result (λ v. v.items ≡ due_in tasks.now) }
+{
+    let mut out = Vec::new(alloc);
+    for (id, task) in tasks.iter().enumerate() {
+        add_due(alloc, id as u64, task, &mut out)?;
+    }
+    Ok(out)
+}
