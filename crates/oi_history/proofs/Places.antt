@@ -1,5 +1,5 @@
 -- One place of a list changed, and lists changed at every place.
-use Rattle.std.proofs.Common.{◌≡◌, ◌<◌, ◌+◌, ◌∙◌, ℕ, suc, zero, List, [], ◌∷◌, ◌++◌, length, take, drop, map, sym, ap, refl, arith, add-one, append-nil, append_assoc, get_or, Option, Some, None, slice_get}
+use Rattle.std.proofs.Common.{◌≡◌, ◌<◌, ◌+◌, ◌∙◌, ℕ, suc, zero, List, [], ◌∷◌, ◌++◌, length, take, drop, map, sym, ap, refl, arith, add-one, append-nil, append_assoc, get_or, Option, Some, None, Result, Ok, Err, OnOk, IfOk, Bool, not, ◌&&◌, slice_get, if◌then◌else◌}
 use Rattle.std.proofs.Math.ListN.{set}
 use Rattle.std.proofs.lemmas.Grind.{common_steps}
 use Rattle.std.proofs.lemmas.List.{length-take-le, take_more}
@@ -7,7 +7,8 @@ use Rattle.std.specs.List.{range_with_len}
 use Rattle.oi_base.specs.TagLayout.{command_tag}
 use Rattle.oi_base.specs.declared.tag.Tag.{Tag}
 use Rattle.oi_history.specs.Tags.{fresh_tags}
-use Rattle.oi_history.specs.Tasks.{changed, due_from, due_of}
+use Rattle.oi_history.specs.Snapshots.{ended_by_step}
+use Rattle.oi_history.specs.Tasks.{changed, due_from, due_of, is_live_on}
 use Rattle.oi_history.specs.declared.fate.Delivered.{Delivered}
 use Rattle.oi_history.specs.declared.task.Task.{Task}
 
@@ -77,3 +78,20 @@ pub due_step : (ts : List Task) (id : ℕ) (x : Task) (out new : List Delivered)
     → new ≡ due_from 0 (take (id + 1) ts)
 due_step ts id x out new h item is makes =
     makes ∙ (ap (λ (z : List Delivered). z ++ due_of id x x.fate) is ∙ (ap (λ y. due_from 0 (take id ts) ++ due_of id y y.fate) item ∙ sym (due_from_more ts id x h)))
+
+pub on_ok : {T E : Type 0} (r : Result T E) (P Q : Type 0) → (P → Q) → OnOk r P → OnOk r Q
+on_ok (Ok u) P Q f p = f p
+on_ok (Err e) P Q f p = p
+
+get_is : (ts : List Task) (id : ℕ) (d : Task) → id < length ts → slice_get ts id ≡ Some (get_or ts id d)
+get_is [] id d h = absurd (omega arith)
+get_is (t ∷ ts) zero d h = refl
+get_is (t ∷ ts) (suc id) d h = get_is ts id d (omega arith)
+
+-- whether the tag of the changed submission ended
+pub ends_at : {E : Type 0} (id : ℕ) (tag : Tag) (f : Task → Task) (ts : List Task) (x v : Task) (r : Result Bool E) → id < length ts → x ≡ get_or ts id x → OnOk r (v ≡ f x)
+    → IfOk r (λ over. over ≡ (is_live_on tag.0 x.fate && not (is_live_on tag.0 v.fate)))
+    → IfOk r (λ over. (if over then tag ∷ [] else []) ≡ ended_by_step tag (slice_get ts id) f)
+ends_at id tag f ts x v (Err e) h is makes over = over
+ends_at id tag f ts x v (Ok b) h is makes over =
+    rw (over, get_is ts id x h, ← is, makes) refl

@@ -1,4 +1,6 @@
 pub mod Commands
+pub mod Configs
+pub mod States
 pub mod RuleWords
 pub mod Phases
 pub mod Tags

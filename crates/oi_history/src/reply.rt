@@ -1,4 +1,4 @@
-ghost use Rattle.std.specs.Prelude.{◌≡◌, ◌<◌, IfOk, OnOk, OnErr, []};
+ghost use Rattle.std.specs.Prelude.{◌≡◌, ◌<◌, ◌&&◌, not, IfOk, OnOk, OnErr, []};
 ghost use Rattle.oi_history.specs.Tasks.{data_reply, data_step, is_live_on, is_waiting, is_done, issued, replied, residual_of, response_step, scsi_reply, settled, tries_of, with_piece, cut_off, cut_by};
 
 use crate::fate::{Fate, Outcome};
@@ -162,32 +162,35 @@ fn take_piece(task: &mut Task, payload: &[u8]) -> Result<(), NoMemory>
     Ok(())
 }
 
-/// A Data-In for the tag of a submission.
-pub fn data_to(task: &mut Task, alloc: Global, allowed: u8, at: u64, h: DataIn, payload: &[u8]) -> Result<(), NoMemory>
+/// A Data-In for the tag of a submission. Answers whether the submission left the tag.
+pub fn data_to(task: &mut Task, alloc: Global, allowed: u8, at: u64, h: DataIn, payload: &[u8]) -> Result<bool, NoMemory>
     ensures ok { OnOk result (task.new ≡ data_step allowed at h payload.now task.old) }
+    ensures ended { IfOk result (λ over. over ≡ (is_live_on h.tag.0 task.old.fate && not (is_live_on h.tag.0 task.new.fate))) }
     ensures err { OnErr result (task.new ≡ task.old) }
 {
     if !is_live_on(&task.fate, h.tag) {
-        return Ok(());
+        return Ok(false);
     }
     take_piece(task, payload)?;
     if h.ends {
         reply_to(task, alloc, allowed, at, data_reply(alloc, h));
+        return Ok(!is_live_on(&task.fate, h.tag));
     }
-    Ok(())
+    Ok(false)
 }
 
-/// A SCSI Response for the tag of a submission.
-pub fn response_to(task: &mut Task, alloc: Global, allowed: u8, at: u64, h: ScsiResponse, payload: &[u8]) -> Result<(), NoMemory>
+/// A SCSI Response for the tag of a submission. Answers whether the submission left the tag.
+pub fn response_to(task: &mut Task, alloc: Global, allowed: u8, at: u64, h: ScsiResponse, payload: &[u8]) -> Result<bool, NoMemory>
     ensures ok { OnOk result (task.new ≡ response_step allowed at h payload.now task.old) }
+    ensures ended { IfOk result (λ over. over ≡ (is_live_on h.tag.0 task.old.fate && not (is_live_on h.tag.0 task.new.fate))) }
     ensures err { OnErr result (task.new ≡ task.old) }
 {
     if !is_live_on(&task.fate, h.tag) {
-        return Ok(());
+        return Ok(false);
     }
     let reply = scsi_reply(alloc, h, payload)?;
     reply_to(task, alloc, allowed, at, reply);
-    Ok(())
+    Ok(!is_live_on(&task.fate, h.tag))
 }
 
 // What the recovery table says of a submission that is not done.

@@ -1,4 +1,6 @@
-ghost use Rattle.std.specs.Prelude.{◌≡◌, ◌++◌, ◌<◌, ◌≤◌, ◌+◌, IfOk, OnOk, OnErr, length, map, filter, not, ◌==◌, count_by, vec_len, All};
+ghost use Rattle.std.specs.Prelude.{◌≡◌, ◌++◌, ◌<◌, ◌≤◌, ◌+◌, IfOk, OnOk, OnErr, length, map, filter, not, ◌==◌, count_by, vec_len, All, [], ◌∷◌, slice_get, if◌then◌else◌};
+ghost use Rattle.std.specs.Vec.{vec_capacity};
+ghost use Rattle.oi_history.specs.Snapshots.{ended_by_step};
 ghost use Rattle.oi_history.specs.Tags.{fresh_tags};
 ghost use Rattle.oi_history.specs.Tasks.{changed, cut_off, data_step, due_in, due_of, is_done, issued, response_step, told_task, tries_of, waiting_in};
 
@@ -46,7 +48,9 @@ pub fn pending(tasks: &[Task]) -> usize
 
 /// The tag is in use no more.
 pub fn release(busy: &mut Vec<Allocated>, tag: Tag)
-    ensures { busy.new.items ≡ filter (λ a. not (a.tag.0 == tag.0)) busy.old.items }
+    ensures items { busy.new.items ≡ filter (λ a. not (a.tag.0 == tag.0)) busy.old.items }
+    ensures len { vec_len busy.new ≤ vec_len busy.old }
+    ensures capacity { vec_capacity busy.new ≡ vec_capacity busy.old }
 {
     busy.retain(|a| a.tag.0 != tag.0);
 }
@@ -61,20 +65,24 @@ pub fn issue_at(tasks: &mut Vec<Task>, id: usize, generation: u64, tag: Tag)
     issue(task, generation, tag);
 }
 
-/// A Data-In for the submission with this id.
-pub fn data_at(tasks: &mut Vec<Task>, id: usize, alloc: Global, allowed: u8, at: u64, h: DataIn, payload: &[u8]) -> Result<(), NoMemory>
+/// A Data-In for the submission with this id. Answers whether its tag ended.
+pub fn data_at(tasks: &mut Vec<Task>, id: usize, alloc: Global, allowed: u8, at: u64, h: DataIn, payload: &[u8]) -> Result<bool, NoMemory>
     requires { id < vec_len tasks.old }
     ensures ok { OnOk result (tasks.new.items ≡ changed id (data_step allowed at h payload.now) tasks.old.items) }
+    ensures ended { IfOk result (λ over. (if over then h.tag ∷ [] else [])
+        ≡ ended_by_step h.tag (slice_get tasks.old.items id) (data_step allowed at h payload.now)) }
     ensures err { OnErr result (tasks.new.items ≡ tasks.old.items) }
 {
     let task = &mut tasks[id];
     data_to(task, alloc, allowed, at, h, payload)
 }
 
-/// A SCSI Response for the submission with this id.
-pub fn response_at(tasks: &mut Vec<Task>, id: usize, alloc: Global, allowed: u8, at: u64, h: ScsiResponse, payload: &[u8]) -> Result<(), NoMemory>
+/// A SCSI Response for the submission with this id. Answers whether its tag ended.
+pub fn response_at(tasks: &mut Vec<Task>, id: usize, alloc: Global, allowed: u8, at: u64, h: ScsiResponse, payload: &[u8]) -> Result<bool, NoMemory>
     requires { id < vec_len tasks.old }
     ensures ok { OnOk result (tasks.new.items ≡ changed id (response_step allowed at h payload.now) tasks.old.items) }
+    ensures ended { IfOk result (λ over. (if over then h.tag ∷ [] else [])
+        ≡ ended_by_step h.tag (slice_get tasks.old.items id) (response_step allowed at h payload.now)) }
     ensures err { OnErr result (tasks.new.items ≡ tasks.old.items) }
 {
     let task = &mut tasks[id];

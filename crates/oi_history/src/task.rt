@@ -18,6 +18,23 @@ pub struct Task {
     pub told: bool,
 }
 
+impl Task {
+    ghost use Rattle.oi_history.specs.Tasks.{fresh_task};
+
+    /// A submission that came in just now.
+    pub fn new(alloc: Global, command: Command) -> Task
+        ensures { result ≡ fresh_task command }
+    {
+        Task {
+            command,
+            fate: Fate::Waiting { tries: 0 },
+            got: Received::new(alloc),
+            pieces: 0,
+            told: false,
+        }
+    }
+}
+
 /// Data that grows piece by piece; contracts see the bytes.
 #[derive(Debug, Drop)]
 pub struct Received {

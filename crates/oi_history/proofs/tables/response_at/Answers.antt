@@ -1,14 +1,15 @@
-use Rattle.std.proofs.Common.{◌≡◌, Result, Ok, Err, OnOk, arith}
+use Rattle.std.proofs.Common.{arith}
 use Rattle.oi_history.specs.Tasks.{response_step}
-use Rattle.oi_history.proofs.Places.{place_changed}
+use Rattle.oi_history.proofs.Places.{ends_at, on_ok, place_changed}
 use Rattle.oi_history.proofs.tables.response_at.Goals as goal
-
-on_ok : {E : Type 0} (r : Result (Unit {0}) E) (P Q : Type 0) → (P → Q) → OnOk r P → OnOk r Q
-on_ok (Ok u) P Q f p = f p
-on_ok (Err e) P Q f p = p
 
 pub returns-clause-ok : goal.returns-clause-ok
 returns-clause-ok c =
     on_ok c.response_to.result _ _
         (place_changed c.args.id (response_step c.args.allowed c.args.at c.args.h c.args.payload.now) c.args.tasks.now.items c.index_mut-task.result.now c.response_to.new.task (omega arith) c.index_mut-task.ensures.value)
         c.response_to.ensures.ok
+
+pub returns-clause-ended : goal.returns-clause-ended
+returns-clause-ended c =
+    ends_at c.args.id c.args.h.tag (response_step c.args.allowed c.args.at c.args.h c.args.payload.now) c.args.tasks.now.items c.index_mut-task.result.now c.response_to.new.task c.response_to.result
+        (omega arith) c.index_mut-task.ensures.value c.response_to.ensures.ok c.response_to.ensures.ended
