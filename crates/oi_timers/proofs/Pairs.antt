@@ -1,13 +1,13 @@
 -- That the set of pairs of time and key and the list of times by key stay alike, and what the first pair is.
-use Rattle.std.proofs.Common.{ℕ, Bool, true, false, cond, ◌&&◌, ◌≡◌, ◌<◌, ◌≤◌, ◌∙◌, List, [], ◌∷◌, Option, Some, None, refl, sym, ap, subst, arith, IsTrue, IfNone, length}
+use Rattle.std.proofs.Common.{ℕ, Bool, true, false, cond, ◌&&◌, ◌≡◌, ◌<◌, ◌≤◌, ◌∙◌, List, [], ◌∷◌, Option, Some, None, refl, sym, ap, arith, IsTrue, IfNone, length}
 use Rattle.std.proofs.Math.Dec.{eqb}
-use Rattle.std.proofs.lemmas.Bool.{eqb-true, eq-eqb, cases_Bool}
+use Rattle.std.proofs.lemmas.Bool.{eqb-true, eq-eqb}
 use Rattle.std.proofs.lemmas.Map.Entries.{lookup_head}
 use Rattle.std.proofs.lemmas.Map.Keys.{le_from_not_gt}
 use Rattle.std.specs.List.{list_any}
 use Rattle.std.specs.declared.cmp.Ordering.{Ordering}
 use Rattle.std.specs.declared.cmp.Ordering.TheVariants.{Less, Equal, Greater}
-use Rattle.std.specs.Ordering.{nat_cmp, ordering_then, is_eq, is_gt}
+use Rattle.std.specs.Ordering.{nat_cmp, ordering_then, is_gt}
 use Rattle.std.specs.Cmp.{nat_cmp_is, tied_then, unsigned_ties}
 use Rattle.std.specs.BTreeMap.{BTreeMap, is_at, Updates as UpdatesMap}
 use Rattle.std.specs.BTreeSet.{BTreeSet, contains, Updates as UpdatesSet, IsLowerBound}
@@ -74,18 +74,18 @@ pub Agree-new : (m n : BTreeMap ℕ ℕ) (s s' : BTreeSet (ℕ × ℕ)) (key at 
 Agree-new m n s s' key at agree pairs times none = λ q t.
     pair_after s s' at key true pairs q t
     ∙ added (eqb key q) (eqb at t) _ _
-        (λ p _. agree q t ∙ time_was m n s key None (sym none) q t p)
-        (λ p. time_here m n s key (Some at) times q t p)
-        (λ p. time_there m n s key (Some at) times q t p ∙ sym (agree q t))
+    (λ p _. agree q t ∙ time_was m n s key None (sym none) q t p)
+    (λ p. time_here m n s key (Some at) times q t p)
+    (λ p. time_there m n s key (Some at) times q t p ∙ sym (agree q t))
 
 -- the key has this time already
 pub Agree-same : (m n : BTreeMap ℕ ℕ) (s s' : BTreeSet (ℕ × ℕ)) (key at : ℕ) → Agree m.entries s → UpdatesSet pair_cmp s s' (at, key) true → UpdatesMap nat_cmp m n key (Some at) → Some at ≡ time_of m.entries key → Agree n.entries s'
 Agree-same m n s s' key at agree pairs times same = λ q t.
     pair_after s s' at key true pairs q t
     ∙ added (eqb key q) (eqb at t) _ _
-        (λ p u. agree q t ∙ time_was m n s key (Some at) (sym same) q t p ∙ u)
-        (λ p. time_here m n s key (Some at) times q t p)
-        (λ p. time_there m n s key (Some at) times q t p ∙ sym (agree q t))
+    (λ p u. agree q t ∙ time_was m n s key (Some at) (sym same) q t p ∙ u)
+    (λ p. time_here m n s key (Some at) times q t p)
+    (λ p. time_there m n s key (Some at) times q t p ∙ sym (agree q t))
 
 -- the key had another time
 pub Agree-moved : (m n : BTreeMap ℕ ℕ) (s s' s'' : BTreeSet (ℕ × ℕ)) (key at old : ℕ) → Agree m.entries s → UpdatesSet pair_cmp s s' (at, key) true → UpdatesMap nat_cmp m n key (Some at) → UpdatesSet pair_cmp s' s'' (old, key) false → Some old ≡ time_of m.entries key → eqb old at ≡ false → Agree n.entries s''
@@ -93,10 +93,10 @@ Agree-moved m n s s' s'' key at old agree pairs times gone was apart = λ q t.
     pair_after s' s'' old key false gone q t
     ∙ ap (λ x. cond (eqb old t && eqb key q) false x) (pair_after s s' at key true pairs q t)
     ∙ moved (eqb key q) (eqb at t) (eqb old t) _ _
-        (λ p. agree q t ∙ time_was m n s key (Some old) (sym was) q t p)
-        (λ u v. sym apart ∙ eq-eqb old at (eqb-true old t v ∙ sym (eqb-true at t u)))
-        (λ p. time_here m n s key (Some at) times q t p)
-        (λ p. time_there m n s key (Some at) times q t p ∙ sym (agree q t))
+    (λ p. agree q t ∙ time_was m n s key (Some old) (sym was) q t p)
+    (λ u v. sym apart ∙ eq-eqb old at (eqb-true old t v ∙ sym (eqb-true at t u)))
+    (λ p. time_here m n s key (Some at) times q t p)
+    (λ p. time_there m n s key (Some at) times q t p ∙ sym (agree q t))
 
 -- want of memory: the pair goes out again
 pub Agree-undone : (m n : BTreeMap ℕ ℕ) (s s' s'' : BTreeSet (ℕ × ℕ)) (key at : ℕ) → Agree m.entries s → UpdatesSet pair_cmp s s' (at, key) true → UpdatesSet pair_cmp s' s'' (at, key) false → n.entries ≡ m.entries → time_of m.entries key ≡ None → Agree n.entries s''
@@ -104,17 +104,17 @@ Agree-undone m n s s' s'' key at agree pairs gone same none = λ q t.
     pair_after s' s'' at key false gone q t
     ∙ ap (λ x. cond (eqb at t && eqb key q) false x) (pair_after s s' at key true pairs q t)
     ∙ undone (eqb key q) (eqb at t) _ _
-        (λ p. agree q t ∙ time_was m n s key None none q t p)
-        (ap (λ (es : List (ℕ × ℕ)). is_time (time_of es q) t) same ∙ sym (agree q t))
+    (λ p. agree q t ∙ time_was m n s key None none q t p)
+    (ap (λ (es : List (ℕ × ℕ)). is_time (time_of es q) t) same ∙ sym (agree q t))
 
 -- the key and its pair go out
 pub Agree-taken : (m n : BTreeMap ℕ ℕ) (s s' : BTreeSet (ℕ × ℕ)) (key at : ℕ) → Agree m.entries s → UpdatesSet pair_cmp s s' (at, key) false → UpdatesMap nat_cmp m n key None → time_of m.entries key ≡ Some at → Agree n.entries s'
 Agree-taken m n s s' key at agree gone times was = λ q t.
     pair_after s s' at key false gone q t
     ∙ taken (eqb key q) (eqb at t) _ _
-        (λ p. agree q t ∙ time_was m n s key (Some at) was q t p)
-        (λ p. time_here m n s key None times q t p)
-        (λ p. time_there m n s key None times q t p ∙ sym (agree q t))
+    (λ p. agree q t ∙ time_was m n s key (Some at) was q t p)
+    (λ p. time_here m n s key None times q t p)
+    (λ p. time_there m n s key None times q t p ∙ sym (agree q t))
 
 time_is : (o : Option ℕ) (at : ℕ) → is_time o at ≡ true → o ≡ Some at
 time_is None at h = cc
@@ -137,10 +137,10 @@ second_not_gt Greater b e h = cc
 -- the least pair of the set is the first time of the list
 pub IsFirst-least : (times : List (ℕ × ℕ)) (s : BTreeSet (ℕ × ℕ)) (key at : ℕ) → Agree times s → IsTrue (contains pair_cmp s (at, key)) → IsLowerBound pair_cmp s (at, key) → IsFirst times key at
 IsFirst-least times s key at agree member least = record {
-    held = time_is _ at (sym (agree key at) ∙ member);
-    earliest = λ k t h. le_from_not_gt at t (first_not_gt (nat_cmp at t) (nat_cmp key k) (least (t, k) (pair_of times s agree k t h)));
-    least = λ k h. le_from_not_gt key k (second_not_gt (nat_cmp at at) (nat_cmp key k) (sym (nat_cmp_is at at Equal refl)) (least (at, k) (pair_of times s agree k at h)));
-  }
+  held = time_is _ at (sym (agree key at) ∙ member);
+  earliest = λ k t h. le_from_not_gt at t (first_not_gt (nat_cmp at t) (nat_cmp key k) (least (t, k) (pair_of times s agree k t h)));
+  least = λ k h. le_from_not_gt key k (second_not_gt (nat_cmp at at) (nat_cmp key k) (sym (nat_cmp_is at at Equal refl)) (least (at, k) (pair_of times s agree k at h)));
+}
 
 none_among : (test : ℕ × ℕ → Bool) (ks : List (ℕ × ℕ)) → (0 < length ks → ⊥) → list_any test ks ≡ false
 none_among test [] h = refl

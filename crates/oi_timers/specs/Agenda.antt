@@ -2,7 +2,8 @@
 use Rattle.std.specs.Prelude.{ℕ, Bool, Option, Some, None, List, false, ◌≡◌, ◌==◌, ◌<◌, ◌≤◌}
 use Rattle.std.specs.declared.cmp.Ordering.{Ordering}
 use Rattle.std.specs.Ordering.{nat_cmp, ordering_then}
-use Rattle.std.specs.Map.{lookup, remove_entry}
+use Rattle.std.specs.List.Sorted.{IsStrictlySortedBy}
+use Rattle.std.specs.Map.{keys_of, lookup, remove_entry}
 use Rattle.std.specs.BTreeMap.{is_at, insert_entry}
 use Rattle.std.specs.BTreeSet.{BTreeSet, contains}
 
@@ -17,6 +18,10 @@ with_time times key at = insert_entry nat_cmp times key at
 -- the same, where this key has none
 abbrev pub without : List (ℕ × ℕ) → ℕ → List (ℕ × ℕ)
 without times key = remove_entry (is_at (nat_cmp key)) times
+
+-- a key has one time at most: the keys ascend
+abbrev pub IsOneEach : List (ℕ × ℕ) → Type 0
+IsOneEach times = IsStrictlySortedBy nat_cmp (keys_of times)
 
 -- the key is the first one: none has an earlier time, and none of those with the same time is less
 pub record IsFirst (times : List (ℕ × ℕ)) (key at : ℕ) : Type 0 where

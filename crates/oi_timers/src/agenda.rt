@@ -12,18 +12,18 @@ pub struct Agenda {
 
 impl Model for Agenda {
     ghost use Rattle.std.specs.Prelude.{List, ℕ};
-    ghost use Rattle.oi_timers.specs.Agenda.{Agree};
+    ghost use Rattle.oi_timers.specs.Agenda.{Agree, IsOneEach};
 
     ghost Value = { List (ℕ × ℕ) };
 
     ghost view = { λ a. a.by_key.entries };
 
-    ghost invariant = { λ a. Agree a.by_key.entries a.by_time };
+    ghost invariant = { λ a. Agree a.by_key.entries a.by_time × IsOneEach a.by_key.entries };
 }
 
 impl Agenda {
     ghost use Rattle.std.specs.Prelude.{◌≡◌, ◌≤◌, ℕ, [], IfNone, IfSome, OnErr, OnOk};
-    ghost use Rattle.oi_timers.specs.Agenda.{IsFirst, NoneDue, time_of, with_time, without};
+    ghost use Rattle.oi_timers.specs.Agenda.{IsFirst, IsOneEach, NoneDue, time_of, with_time, without};
 
     /// No times; takes no memory.
     pub fn new(alloc: Global) -> Agenda
@@ -39,6 +39,7 @@ impl Agenda {
     pub fn set(&mut self, key: u32, at: u64) -> Result<(), NoMemory>
         ensures ok { OnOk result (self.new ≡ with_time self.old key at) }
         ensures err { OnErr result (self.new ≡ self.old) }
+        ensures one_each { IsOneEach self.new }
     {
         self.by_time.insert((at, key))?;
         match self.by_key.insert(key, at) {
@@ -58,7 +59,8 @@ impl Agenda {
 
     /// Takes the key's time away, if it has one.
     pub fn clear(&mut self, key: u32)
-        ensures { self.new ≡ without self.old key }
+        ensures cleared { self.new ≡ without self.old key }
+        ensures one_each { IsOneEach self.new }
     {
         if let Some(at) = self.by_key.remove(&key) {
             self.by_time.remove(&(at, key));
@@ -69,6 +71,7 @@ impl Agenda {
     pub fn earliest(&self) -> Option<u64>
         ensures none { IfNone result (self.now ≡ []) }
         ensures first { IfSome result (λ at. (key : ℕ) × IsFirst self.now key at) }
+        ensures one_each { IsOneEach self.now }
     {
         let (at, _) = self.first()?;
         Some(at)
@@ -78,6 +81,7 @@ impl Agenda {
     fn first(&self) -> Option<(u64, u32)>
         ensures none { IfNone result (self.now ≡ []) }
         ensures first { IfSome result (λ pair. IsFirst self.now pair.1 pair.0) }
+        ensures one_each { IsOneEach self.now }
     {
         match self.by_time.first() {
             Some(pair) => Some(*pair),
@@ -91,6 +95,7 @@ impl Agenda {
         ensures none_due { IfNone result (NoneDue self.old now) }
         ensures first { IfSome result (λ key. (at : ℕ) × (at ≤ now) × IsFirst self.old key at) }
         ensures left { IfSome result (λ key. self.new ≡ without self.old key) }
+        ensures one_each { IsOneEach self.new }
     {
         let (at, key) = self.first()?;
         if at > now {

@@ -8,3 +8,6 @@ mod timer;
 pub use agenda::Agenda;
 pub use pings::{PingDue, ping};
 pub use timer::{past, replacement};
+
+#[cfg(test)]
+mod tests;
