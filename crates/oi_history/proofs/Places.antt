@@ -1,14 +1,15 @@
 -- One place of a list changed, and lists changed at every place.
-use Rattle.std.proofs.Common.{◌≡◌, ◌<◌, ◌+◌, ◌∙◌, ℕ, suc, zero, List, [], ◌∷◌, ◌++◌, length, take, drop, map, sym, ap, refl, arith, add-one, append-nil, append_assoc, get_or, Option, Some, None, Result, Ok, Err, OnOk, IfOk, Bool, not, ◌&&◌, slice_get, if◌then◌else◌}
+use Rattle.std.proofs.Common.{◌≡◌, ◌<◌, ◌≤◌, ◌+◌, ◌∙◌, ℕ, suc, zero, List, [], ◌∷◌, ◌++◌, length, take, drop, map, sym, ap, refl, arith, add-one, append-nil, append_assoc, get_or, Option, Some, None, Result, Ok, Err, OnOk, IfOk, Bool, not, ◌&&◌, slice_get, if◌then◌else◌}
 use Rattle.std.proofs.Math.ListN.{set}
 use Rattle.std.proofs.lemmas.Grind.{common_steps}
 use Rattle.std.proofs.lemmas.List.{length-take-le, take_more}
 use Rattle.std.specs.List.{range_with_len}
 use Rattle.oi_base.specs.TagLayout.{command_tag}
 use Rattle.oi_base.specs.declared.tag.Tag.{Tag}
-use Rattle.oi_history.specs.Tags.{fresh_tags}
+use Rattle.oi_history.specs.Tags.{fresh_tags, holder}
 use Rattle.oi_history.specs.Snapshots.{ended_by_step}
-use Rattle.oi_history.specs.Tasks.{changed, due_from, due_of, is_live_on}
+use Rattle.oi_history.specs.Tasks.{changed, changed_held, due_from, due_of, held, is_live_on}
+use Rattle.oi_history.specs.declared.allocated.Allocated.{Allocated}
 use Rattle.oi_history.specs.declared.fate.Delivered.{Delivered}
 use Rattle.oi_history.specs.declared.task.Task.{Task}
 
@@ -95,3 +96,16 @@ pub ends_at : {E : Type 0} (id : ℕ) (tag : Tag) (f : Task → Task) (ts : List
 ends_at id tag f ts x v (Err e) h is makes over = over
 ends_at id tag f ts x v (Ok b) h is makes over =
     rw (over, get_is ts id x h, ← is, makes) refl
+
+none_past : (ts : List Task) (id : ℕ) → length ts ≤ id → slice_get ts id ≡ None
+none_past [] id h = refl
+none_past (t ∷ ts) zero h = absurd (omega arith)
+none_past (t ∷ ts) (suc id) h = none_past ts id (omega arith)
+
+-- a holder that is no submission
+pub held_past : (tag id : ℕ) (busy : List Allocated) (f : Task → Task) (ts : List Task) → holder tag busy ≡ Some id → length ts ≤ id → ts ≡ changed_held tag busy f ts
+held_past tag id busy f ts is past = rw is (sym (changed_past id f ts (none_past ts id past)))
+
+pub nothing_ends : (tag : Tag) (id : ℕ) (busy : List Allocated) (f : Task → Task) (ts : List Task) (ended new : List Tag) → holder tag.0 busy ≡ Some id → length ts ≤ id → new ≡ ended
+    → new ≡ ended ++ ended_by_step tag (held tag.0 busy ts) f
+nothing_ends tag id busy f ts ended new is past same = rw (is, none_past ts id past, append-nil) same
