@@ -1,8 +1,8 @@
 -- What can be encoded decodes to itself.
-use Rattle.std.proofs.Common.{◌≡◌, ℕ, None, ◌+◌, ◌<◌, ◌^◌, List, ◌++◌, length, take, drop, replicate, refl, sym, ap, subst, append_assoc, arith, length-append}
+use Rattle.std.proofs.Common.{◌≡◌, ℕ, List, ◌++◌, length, take, drop, replicate, refl, sym, append_assoc, arith, length-append}
 use Rattle.std.proofs.lemmas.List.{take_at, drop_at, length-replicate}
-use Rattle.oi_pdu.specs.Segments.{cells, basic_at, additional, data_len, padding}
-use Rattle.oi_pdu.specs.Table.{layout, header_of, bad_header}
+use Rattle.oi_pdu.specs.Segments.{cells, padding}
+use Rattle.oi_pdu.specs.Table.{layout}
 use Rattle.oi_pdu.specs.Wire.{Encodable, Decodes, encoding}
 use Rattle.oi_pdu.specs.declared.basic.BasicHeader.{BasicHeader}
 use Rattle.oi_pdu.specs.declared.codec.Pdu.{Pdu}

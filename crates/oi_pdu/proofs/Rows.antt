@@ -1,6 +1,5 @@
 -- Each row of the table is read back as it was written.
-use Rattle.std.proofs.Common.{◌≡◌, ℕ, None, false, ◌+◌, ◌*◌, ◌/◌, ◌%◌, ◌^◌, ◌<◌, List, [], ◌∷◌, ◌++◌, length, refl, ap, ◌∙◌, arith}
-use Rattle.oi_pdu.specs.Segments.{word, words}
+use Rattle.std.proofs.Common.{◌≡◌, None, false, ◌+◌, ◌*◌, ◌^◌, ◌<◌, refl, ap, ◌∙◌, arith}
 use Rattle.oi_pdu.specs.Table.{header_at, bad_at, header_of, bad_header, layout, nop_out, scsi_command, task_management, login_request, text_request, data_out, logout_request, nop_in, scsi_response, task_response, login_response, text_response, data_in, logout_response, r2t, async, reject}
 use Rattle.oi_pdu.specs.Widths.{EncodableHeader, NopOutWidths, ScsiCommandWidths, TaskManagementWidths, LoginRequestWidths, TextRequestWidths, DataOutWidths, LogoutRequestWidths, NopInWidths, ScsiResponseWidths, TaskResponseWidths, LoginResponseWidths, TextResponseWidths, DataInWidths, LogoutResponseWidths, R2tWidths, AsyncWidths, RejectWidths}
 use Rattle.oi_pdu.specs.declared.basic.BasicHeader.{BasicHeader}

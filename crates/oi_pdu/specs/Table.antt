@@ -1,6 +1,6 @@
 -- The table of PDU formats (RFC 7143, section 11): where each field of a header stands, written and read, one row a
 -- variant and direction. Byte 1 holds the flags; every other place that no field takes is zero.
-use Rattle.std.specs.Prelude.{ℕ, Bool, List, Option, Some, None, ◌+◌, ◌*◌, ◌/◌, ◌%◌, ◌^◌, ◌==◌, ◌++◌, ◌||◌, ◌&&◌, nat_lt, take, replicate, if◌then◌else◌}
+use Rattle.std.specs.Prelude.{ℕ, Bool, Option, Some, None, ◌+◌, ◌*◌, ◌/◌, ◌%◌, ◌^◌, ◌==◌, ◌++◌, ◌||◌, ◌&&◌, nat_lt, take, replicate, if◌then◌else◌}
 use Rattle.std.specs.Int.{w16, to_be_bytes}
 use Rattle.oi_base.specs.TagLayout.{reserved_tag}
 use Rattle.oi_pdu.specs.Segments.{flag, is_set, word, half, words}
@@ -508,7 +508,7 @@ layout (headers.R2t h) = r2t h
 layout (headers.Async h) = async h
 layout (headers.Reject h) = reject h
 
--- the header with this opcode at these places; the last line is for reject and stands for no other opcode that is good
+-- the header with this opcode at these places; of the good opcodes the last line has 3f alone
 abbrev pub header_at : ℕ → BasicHeader → Header
 header_at op b =
     if op == 0x00 then headers.NopOut (nop_out_of b)
@@ -538,7 +538,7 @@ abbrev pub is_opcode : ℕ → Bool
 is_opcode op =
     nat_lt op 0x07 || (nat_lt 0x1f op && nat_lt op 0x27) || op == 0x31 || op == 0x32 || op == 0x3f
 
--- a login PDU names stage 2, which there is none; the next stage counts only with T set (RFC 7143, section 11.12.3)
+-- a login PDU names stage 2, which is not defined; the next stage counts only with T set (RFC 7143, section 11.12)
 abbrev pub names_stage_two : Bool → ℕ → ℕ → Bool
 names_stage_two transit csg nsg = csg == 2 || (transit && nsg == 2)
 

@@ -16,3 +16,6 @@ pub use header::{
     TextRequest, TextResponse,
 };
 pub use laws::encoded_decodes;
+
+#[cfg(test)]
+mod vectors;

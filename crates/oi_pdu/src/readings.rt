@@ -53,7 +53,7 @@ pub fn header_from(b: BasicHeader) -> Result<Header, BadHeader>
     }
 }
 
-// Stage 2 is none; the next stage counts only with T set.
+// Stage 2 is not defined; the next stage counts only with T set.
 fn names_stage_two(transit: bool, csg: u8, nsg: u8) -> bool
     ensures { result ≡ names_stage_two transit csg nsg }
 {
