@@ -89,6 +89,9 @@ get_is [] id d h = absurd (omega arith)
 get_is (t ∷ ts) zero d h = refl
 get_is (t ∷ ts) (suc id) d h = get_is ts id d (omega arith)
 
+pub get_at : (id : ℕ) (ts : List Task) (x : Task) → id < length ts → x ≡ get_or ts id x → slice_get ts id ≡ Some x
+get_at id ts x h is = get_is ts id x h ∙ ap (λ (y : Task). Some y) (sym is)
+
 -- whether the tag of the changed submission ended
 pub ends_at : {E : Type 0} (id : ℕ) (tag : Tag) (f : Task → Task) (ts : List Task) (x v : Task) (r : Result Bool E) → id < length ts → x ≡ get_or ts id x → OnOk r (v ≡ f x)
     → IfOk r (λ over. over ≡ (is_live_on tag.0 x.fate && not (is_live_on tag.0 v.fate)))

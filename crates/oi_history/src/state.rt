@@ -61,13 +61,14 @@ impl Model for State {
 }
 
 impl State {
-    ghost use Rattle.std.specs.Prelude.{◌≡◌, ◌≤◌, ◌<◌, ◌+◌, ◌^◌, ◌==◌, ◌↔◌, ℕ, Some, None, [], IsTrue, false, IfOk, OnOk, OnErr, length, slice_get, not, count_by, All};
+    ghost use Rattle.std.specs.Prelude.{◌≡◌, ◌≤◌, ◌<◌, ◌+◌, ◌^◌, ◌==◌, ◌↔◌, ℕ, Some, None, [], IsTrue, false, IfOk, OnOk, OnErr, length, slice_get, not, count_by};
     ghost use Rattle.oi_history.specs.Configs.{IsValidConfig};
     ghost use Rattle.oi_history.specs.Snapshots.{first_snapshot};
     ghost use Rattle.oi_history.specs.States.{IsSame, Steps};
     ghost use Rattle.oi_history.specs.Tasks.{due_in, is_done, tries_of, waiting_in};
     ghost use Rattle.oi_history.specs.declared.event.Event.TheVariants.{Deliver, Issue, Login, Reap, Submit, Terminate};
     ghost use Rattle.oi_history.specs.declared.phase.Phase.TheVariants.{First};
+    ghost use Rattle.oi_history.specs.declared.task.Task.{Task};
     ghost use Rattle.oi_history.specs.Phases.{is_ended};
     ghost use Rattle.oi_window.specs.Numbering.{is_open, next_of};
 
@@ -136,7 +137,7 @@ impl State {
     /// The command of a submission goes out under the tag that has been free longest.
     pub fn issue(&mut self, id: u64, generation: u64, tag: Tag)
         requires place { id < length self.old.now.tasks }
-        requires tries { All (λ t. tries_of t.fate < 255) self.old.now.tasks }
+        requires tries { (t : Task) → slice_get self.old.now.tasks id ≡ Some t → tries_of t.fate < 255 }
         requires window { IsTrue (is_open self.old.now.window) }
         requires room { 0 < self.old.takes }
         ensures { (cmdsn at : ℕ) → cmdsn ≡ next_of self.old.now.window → Steps self.old self.new (Issue id generation tag cmdsn) at }

@@ -1,7 +1,8 @@
-ghost use Rattle.std.specs.Prelude.{◌≡◌, ◌++◌, ◌<◌, ◌≤◌, ◌+◌, IfOk, OnOk, OnErr, length, map, filter, not, ◌==◌, count_by, vec_len, All, [], ◌∷◌, slice_get, if◌then◌else◌};
+ghost use Rattle.std.specs.Prelude.{◌≡◌, ◌++◌, ◌<◌, ◌≤◌, ◌+◌, IfOk, OnOk, OnErr, length, map, filter, not, ◌==◌, count_by, vec_len, Some, [], ◌∷◌, slice_get, if◌then◌else◌};
 ghost use Rattle.std.specs.Vec.{vec_capacity};
 ghost use Rattle.oi_history.specs.Snapshots.{ended_by_step};
 ghost use Rattle.oi_history.specs.Tags.{fresh_tags};
+ghost use Rattle.oi_history.specs.declared.task.Task.{Task};
 ghost use Rattle.oi_history.specs.Tasks.{changed, cut_off, data_step, due_in, due_of, is_done, issued, response_step, told_task, tries_of, waiting_in};
 
 use crate::allocated::Allocated;
@@ -58,7 +59,7 @@ pub fn release(busy: &mut Vec<Allocated>, tag: Tag)
 /// The command of a submission goes out.
 pub fn issue_at(tasks: &mut Vec<Task>, id: usize, generation: u64, tag: Tag)
     requires place { id < vec_len tasks.old }
-    requires tries { All (λ t. tries_of t.fate < 255) tasks.old.items }
+    requires tries { (t : Task) → slice_get tasks.old.items id ≡ Some t → tries_of t.fate < 255 }
     ensures { tasks.new.items ≡ changed id (issued generation tag) tasks.old.items }
 {
     let task = &mut tasks[id];
