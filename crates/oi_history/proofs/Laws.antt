@@ -1,6 +1,7 @@
 -- Laws of legal histories.
-use Rattle.std.proofs.Common.{◌≡◌, ◌<◌, ◌≤◌, ◌+◌, ◌∙◌, ℕ, suc, zero, Bool, true, false, not, ◌&&◌, ◌==◌, List, [], ◌∷◌, ◌++◌, length, map, sym, ap, subst, refl, arith, Option, Some, None, nat_lt, slice_get, if◌then◌else◌}
+use Rattle.std.proofs.Common.{◌≡◌, ◌<◌, ◌≤◌, ◌+◌, ◌∙◌, ℕ, suc, zero, Bool, true, false, not, ◌&&◌, ◌==◌, List, [], ◌∷◌, ◌++◌, length, map, sym, ap, subst, refl, arith, Option, Some, None, nat_lt, slice_get, if◌then◌else◌, cond}
 use Rattle.std.proofs.lemmas.Bool.Decides.{nat_tests}
+use Rattle.std.proofs.lemmas.Iterator.Adapters.{position_from-zero}
 use Rattle.std.specs.List.{position_from, position}
 use Rattle.std.specs.Option.{option_map_or}
 use Rattle.oi_history.specs.Acceptance.{is_current, rule_of}
@@ -25,6 +26,7 @@ use Rattle.oi_pdu.specs.declared.header.Header.TheVariants.{ScsiResponse, DataIn
 use Rattle.oi_recovery.specs.Recovery.{is_busy, recovery_table, replied as row_of_reply}
 use Rattle.oi_recovery.specs.declared.hit.Aim.TheVariants.{Free}
 use Rattle.oi_recovery.specs.declared.hit.Residual.{Residual}
+use Rattle.oi_recovery.specs.declared.hit.Hit.TheVariants.{Ended}
 use Rattle.oi_recovery.specs.declared.host_code.HostCode.TheVariants.{BadTarget, Error}
 use Rattle.oi_pdu.specs.declared.header.DataIn.{DataIn as DataInHeader}
 use Rattle.oi_pdu.specs.declared.header.ScsiResponse.{ScsiResponse as ResponseHeader}
@@ -112,8 +114,8 @@ cut_by_has a at t (Wait tries) p = p
 cut_by_has a at t Answer p = p
 
 cut_has : (a at : ℕ) (t : Task) (f : Fate) → HasTry a t → HasTry a (cut_task a at t f)
-cut_has a at t (Waiting tries) p = cut_by_has a at t _ p
-cut_has a at t (Live generation tag tries) p = cut_by_has a at t _ p
+cut_has a at t (Waiting tries) p = cut_by_has a at t (recovery_table (StandsWaiting tries) Ended a) p
+cut_has a at t (Live generation tag tries) p = cut_by_has a at t (recovery_table (StandsLive tries) Ended a) p
 cut_has a at t (Done outcome n) p = p
 
 with_has : (a at : ℕ) (busy : List Allocated) (h : Header) (payload : List ℕ) (ts : List Task) → HaveTries a ts → HaveTries a (tasks_with a at busy h payload ts)
@@ -142,9 +144,31 @@ pub record IsReady (allowed id : ℕ) (ts : List Task) : Type 0 where
   pub place : id < length ts
   pub tries : (t : Task) → slice_get ts id ≡ Some t → tries_of t.fate < allowed
 
-ready_from : (a from id : ℕ) (ts : List Task) → HaveTries a ts → position_from (λ t. is_waiting t.fate) from ts ≡ Some id → (from ≤ id) × ((k : ℕ) → id ≡ from + k → IsReady a k ts)
-ready_from a from id [] p is = absurd cc
-ready_from a from id (t ∷ ts) p is = ?
+record IsFrom (a from id : ℕ) (ts : List Task) : Type 0 where
+  after : from ≤ id
+  ready : (k : ℕ) → id ≡ from + k → IsReady a k ts
 
-pub ready : (a id : ℕ) (ts : List Task) → HaveTries a ts → waiting_in ts ≡ Some id → IsReady a id ts
-ready a id ts p is = (ready_from a 0 id ts p is).1 id (omega arith)
+first_waits : (a from id : ℕ) (t : Task) (ts : List Task) → HasTry a t → is_waiting t.fate ≡ true → from ≡ id → IsFrom a from id (t ∷ ts)
+first_waits a from id t ts p waits same = record {
+  after = omega arith;
+  ready = λ k is. let none : k ≡ 0 = omega arith in
+    record { place = omega arith; tries = λ x at. let mine : slice_get (t ∷ ts) 0 ≡ Some x = subst (λ (i : ℕ). slice_get (t ∷ ts) i ≡ Some x) none at in let there : t ≡ x = cc in subst (λ (y : Task). tries_of y.fate < a) there (p.left waits) }
+}
+
+later_waits : (a from id : ℕ) (t : Task) (ts : List Task) → IsFrom a (from + 1) id ts → IsFrom a from id (t ∷ ts)
+later_waits a from id t ts later = record { after = omega (arith, later.after); ready = go }
+  where
+    go : (k : ℕ) → id ≡ from + k → IsReady a k (t ∷ ts)
+    go zero is = absurd (omega (arith, later.after))
+    go (suc k) is = let r : IsReady a k ts = later.ready k (omega arith) in record { place = omega (arith, r.place); tries = λ x at. r.tries x at }
+
+ready_at : (a from id : ℕ) (t : Task) (ts : List Task) (b : Bool) → is_waiting t.fate ≡ b → HasTry a t → cond b (Some from) (position_from (λ x. is_waiting x.fate) (from + 1) ts) ≡ Some id
+  → (position_from (λ x. is_waiting x.fate) (from + 1) ts ≡ Some id → IsFrom a (from + 1) id ts) → IsFrom a from id (t ∷ ts)
+ready_at a from id t ts true waits p is more = first_waits a from id t ts p waits (let same : from ≡ id = cc in same)
+ready_at a from id t ts false waits p is more = later_waits a from id t ts (more is)
+ready_from : (a from id : ℕ) (ts : List Task) → HaveTries a ts → position_from (λ t. is_waiting t.fate) from ts ≡ Some id → IsFrom a from id ts
+ready_from a from id [] p is = absurd cc
+ready_from a from id (t ∷ ts) p is = ready_at a from id t ts (is_waiting t.fate) refl p.0 is (ready_from a (from + 1) id ts p.1)
+
+pub ready : (a id : ℕ) (ts : List Task) → HaveTries a ts → position (λ t. is_waiting t.fate) ts ≡ Some id → IsReady a id ts
+ready a id ts p is = (ready_from a 0 id ts p (sym (position_from-zero (λ (t : Task). is_waiting t.fate) ts) ∙ is)).ready id (omega arith)

@@ -12,6 +12,7 @@ mod reply;
 mod tables;
 mod state;
 mod receiving;
+mod sending;
 mod phase;
 mod rule;
 mod task;

@@ -4,9 +4,11 @@ use crate::config::SessionConfig;
 use crate::fate::Delivered;
 use crate::phase::{End, Phase};
 use crate::rule::Rule;
+use crate::sending::command_pdu;
 use crate::tables::{cut_all, due, first_waiting, fresh_tags, issue_at, pending, release, tell_all};
 use crate::task::{Received, Task};
 use oi_base::{NoMemory, Params, Serial, Tag, age_of};
+use oi_pdu::Pdu;
 use oi_scsi::Request;
 use oi_window::Window;
 use std::alloc::Global;
@@ -64,7 +66,7 @@ impl State {
     ghost use Rattle.std.specs.Prelude.{◌≡◌, ◌≤◌, ◌<◌, ◌+◌, ◌^◌, ◌==◌, ◌↔◌, ℕ, Some, None, [], IsTrue, false, IfOk, OnOk, OnErr, length, slice_get, not, count_by};
     ghost use Rattle.oi_history.specs.Configs.{IsValidConfig};
     ghost use Rattle.oi_history.specs.Snapshots.{first_snapshot};
-    ghost use Rattle.oi_history.specs.States.{IsSame, Steps};
+    ghost use Rattle.oi_history.specs.States.{IsCommandOf, IsSame, Steps};
     ghost use Rattle.oi_history.specs.Tasks.{due_in, is_done, tries_of, waiting_in};
     ghost use Rattle.oi_history.specs.declared.event.Event.TheVariants.{Deliver, Issue, Login, Reap, Submit, Terminate};
     ghost use Rattle.oi_history.specs.declared.phase.Phase.TheVariants.{First};
@@ -228,6 +230,15 @@ impl State {
         ensures { result ≡ waiting_in self.now.now.tasks }
     {
         first_waiting(&self.tasks)
+    }
+
+    /// The SCSI Command PDU that goes out for a submission under this tag.
+    pub fn command_pdu(&self, id: usize, tag: Tag) -> Result<Pdu, NoMemory>
+        requires { id < length self.now.now.tasks }
+        ensures { IfOk result (λ p. IsCommandOf self.now.now id tag p) }
+    {
+        let task = &self.tasks[id];
+        command_pdu(self.alloc, self.params, self.stat, &task.command, tag, self.window.next().0)
     }
 
     /// The tag that has been free longest.
