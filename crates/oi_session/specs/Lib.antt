@@ -1,0 +1,3 @@
+pub mod Sessions
+pub mod Calls
+pub mod Cores
