@@ -1,5 +1,6 @@
 pub mod Counts
 pub mod Decimal
+pub mod Extended
 pub mod Fronts
 pub mod Limits
 pub mod Serials

@@ -1,5 +1,5 @@
 -- Limits and ranges that several crates share.
-use Rattle.std.specs.Prelude.{ℕ, ℤ, pos, negsuc, ◌≤◌, ◌<◌, ◌^◌, ◌*◌, ◌≤ℤ◌}
+use Rattle.std.specs.Prelude.{ℕ, ◌^◌}
 
 -- submissions of a session that are not done
 abbrev pub most_pending : ℕ

@@ -1,5 +1,5 @@
 -- The bits of an initiator task tag: the age in bits 28 to 31, bit 27 for management PDUs.
-use Rattle.std.specs.Prelude.{ℕ, Bool, ◌+◌, ◌-◌, ◌*◌, ◌/◌, ◌%◌, ◌^◌, ◌==◌, ◌&&◌, nat_lt, nat_le, if◌then◌else◌}
+use Rattle.std.specs.Prelude.{ℕ, ◌+◌, ◌-◌, ◌*◌, ◌/◌, ◌%◌, ◌^◌, ◌==◌, ◌&&◌, nat_lt, nat_le, if◌then◌else◌}
 use Rattle.oi_base.specs.declared.tag.TagKind.{TagKind}
 use Rattle.oi_base.specs.declared.tag.TagKind.TheVariants.{Reserved, Command, Management, Other}
 

@@ -11,9 +11,11 @@ mod memory;
 mod serial;
 mod series;
 mod tag;
+#[cfg(test)]
+mod tests;
 
 pub use blob::Blob;
-pub use decimal::{read_number, write_number};
+pub use decimal::{number_place, read_number, write_number};
 pub use keeps::Keeps;
 pub use label::Label;
 pub use login::{LoginDone, Mutual, Params};

@@ -61,3 +61,9 @@ impl<T> Series<T> {
         items
     }
 }
+
+impl<T: Eq> Eq for Series<T> {
+    ghost use Rattle.std.specs.Cmp.Lexicographic.{lists_equiv};
+
+    ghost laws = { lists_equiv T.Eq.laws };
+}
