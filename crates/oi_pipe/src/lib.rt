@@ -6,6 +6,8 @@ mod pipe;
 mod reader;
 mod rule;
 mod steps;
+#[cfg(test)]
+mod tests;
 mod turn;
 mod view;
 mod writer;
