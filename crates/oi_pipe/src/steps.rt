@@ -74,7 +74,8 @@ pub fn leave_written(table: &PipeShared, seat: &mut PipeSeat, store: Store)
     requires table { seat.old.table_id ≡ table.now.table_id }
     requires inside { IsInside seat.old.table_id seat.old.me }
     requires writes { (seat.old.me.0.writes ≡ true) × (seat.old.me.0.closed ≡ false) }
-    requires store { ((added : List ℕ) × (store.items ≡ seat.old.me.0.content ++ added)) × (store.capacity ≡ seat.old.me.0.room) × (length store.items ≤ store.capacity) }
+    requires store { (store.items ≡ seat.old.me.0.content ++ drop (length seat.old.me.0.content) store.items) × (store.capacity ≡ seat.old.me.0.room) }
+    requires small { length store.items ≤ store.capacity }
     ensures same { (seat.new.table_id ≡ seat.old.table_id) × (seat.new.id ≡ seat.old.id) }
     ensures step { seat.new.me ≡ (left_written seat.old.me.0 store.items, []) }
 {

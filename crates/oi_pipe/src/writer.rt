@@ -32,6 +32,7 @@ impl Model for PipeWriter {
 
 impl PipeWriter {
     /// Moves the first bytes of `piece` into the pipe, as many as there is room for, and waits for nothing.
+    #[tactic(auto, using(crate::proofs::Fronts::drop_front))]
     pub fn write(&mut self, piece: &[u8]) -> PipeTurn
         requires piece { 0 < length piece.now }
         requires open { self.old.closed ≡ false }
