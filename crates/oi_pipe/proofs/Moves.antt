@@ -1,5 +1,5 @@
 -- Each step keeps the rule of a pipe's table, and tells what it says.
-use Rattle.std.proofs.Common.{◌≡◌, ◌≢◌, ◌⊎◌, ◌≤◌, ◌<◌, ◌+◌, ◌-◌, eqb, ℕ, zero, suc, List, [], ◌∷◌, ◌++◌, length, take, drop, set, Some, None, Bool, true, false, true≢false, refl, sym, ap, ◌∙◌, subst, ⊎_elim, inl, inr, arith, length-append, append_assoc}
+use Rattle.std.proofs.Common.{◌≡◌, ◌≢◌, ◌⊎◌, ◌≤◌, ◌<◌, ◌-◌, eqb, ℕ, zero, suc, List, [], ◌∷◌, ◌++◌, length, take, drop, set, Some, Bool, true, false, true≢false, refl, sym, ap, ◌∙◌, subst, ⊎_elim, inl, inr, arith, length-append, append_assoc}
 use Rattle.std.proofs.lemmas.List.{take-append-drop, length-drop, append-nil}
 use Rattle.std.proofs.Math.Seq.{drop-append_seam}
 use Rattle.std.specs.Prelude.{slice_index}
@@ -13,7 +13,7 @@ use Rattle.atomic_table.proofs.Lists.{at_set, set_here, set_else, at_longer}
 use Rattle.circular_buffer.specs.Buffer.{Buffer, buffer}
 use Rattle.oi_base.specs.Counts.{bit}
 use Rattle.oi_pipe.specs.declared.view.View.{View}
-use Rattle.oi_pipe.specs.Views.{Slot, opened, reading, writing, met, nobody, entered, kept_out, left, left_full, left_read, left_written, saw_open, saw_closed, shut}
+use Rattle.oi_pipe.specs.Views.{Slot, opened, reading, writing, met, nobody, entered, kept_out, left_full, left_read, left_written, saw_open, saw_closed, shut}
 use Rattle.oi_pipe.specs.Kept.{Pipe, table_of, Fits, IsHolder, Sound, Kept, Tries, Leaves, LeavesFull, LeavesRead, LeavesWritten, Looks, Closes, Meets}
 
 off : false ≡ true → ⊥

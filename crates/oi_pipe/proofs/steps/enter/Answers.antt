@@ -1,7 +1,4 @@
-use Rattle.std.proofs.Common.{rules, ◌≡◌, ℕ, [], ◌∷◌, Some, sym, ap, ◌∙◌, subst, List}
-use Rattle.atomic_table.specs.Table.{rest}
-use Rattle.circular_buffer.specs.Buffer.{buffer}
-use Rattle.oi_pipe.specs.Views.{Slot}
+use Rattle.std.proofs.Common.{rules}
 use Rattle.oi_pipe.proofs.Moves.{tries, taken_out}
 use Rattle.oi_pipe.proofs.steps.enter.Goals as goal
 
