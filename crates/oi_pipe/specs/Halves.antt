@@ -8,12 +8,15 @@ use Rattle.oi_pipe.specs.declared.turn.PipeTurn.TheVariants.{Moved, NotYet, End}
 use Rattle.oi_pipe.specs.Views.{Slot, left, saw_open, saw_closed}
 use Rattle.oi_pipe.specs.Turns.{Reader, Writer, Ends}
 
+-- a reader, from its pipe and what its seat knows
 abbrev pub reader_of : TableId → View → Reader
 reader_of pipe v = record { pipe = pipe; room = v.room; taken = v.taken; ended = v.ended; busy = v.busy; waits = v.waits }
 
+-- a writer, from its pipe and what its seat knows
 abbrev pub writer_of : TableId → View → Writer
 writer_of pipe v = record { pipe = pipe; room = v.room; given = v.given; closed = v.closed; busy = v.busy; waits = v.waits }
 
+-- the two lists, from what the joined seat knows
 abbrev pub ends_of : View → Ends
 ends_of v = record { taken = v.taken; given = v.given }
 

@@ -45,6 +45,7 @@ pub record Sound (room : ℕ) (held closed : Bool) (p : Pipe) (views : List View
   pub each : (id : ℕ) (v : View) → get_elem? views id ≡ some v → Fits room held closed p id v
   pub inside : held ≡ true → IsHolder views p.holder
 
+-- the rule: the table is that of some sound pipe
 abbrev pub Kept : ℕ → State Slot View → Type 0
 Kept room s = (held : Bool) × (closed : Bool) × (p : Pipe) × (s ≡ table_of room held closed p.bytes s.views) × Sound room held closed p s.views
 
@@ -53,18 +54,23 @@ Kept room s = (held : Bool) × (closed : Bool) × (p : Pipe) × (s ≡ table_of 
 abbrev pub Enters : View → Me Slot View → List ℕ → Type 0
 Enters v n bytes = (n ≡ (entered v bytes, (0, Some (buffer bytes v.room)) ∷ [])) × (length bytes ≤ v.room) × (v.ended ≡ true → bytes ≡ []) × (v.writes ≡ true → length bytes ≤ length v.given)
 
+-- a try: the bytes were at home, or the other half was inside
 abbrev pub Tries : Step Slot → Me Slot View → ℕ → Me Slot View → Type 0
 Tries s m found n = MatchBool (found == 0) (Enters m.0 n n.0.content) (n ≡ (kept_out m.0, []))
 
+-- a leave with the bytes as they were found
 abbrev pub Leaves : Step Slot → Me Slot View → ℕ → Me Slot View → Type 0
 Leaves s m found n = n ≡ (left m.0, rest m.1)
 
+-- the same of a writer that found the pipe full
 abbrev pub LeavesFull : Step Slot → Me Slot View → ℕ → Me Slot View → Type 0
 LeavesFull s m found n = n ≡ (left_full m.0, rest m.1)
 
+-- a leave of a reader, with what it has left of the bytes
 abbrev pub LeavesRead : Step Slot → Me Slot View → ℕ → Me Slot View → Type 0
 LeavesRead s m found n = n ≡ (left_read m.0 (bytes_in m.1), rest m.1)
 
+-- a leave of a writer, with the bytes that it has added
 abbrev pub LeavesWritten : Step Slot → Me Slot View → ℕ → Me Slot View → Type 0
 LeavesWritten s m found n = n ≡ (left_written m.0 (bytes_in m.1), rest m.1)
 
@@ -72,6 +78,7 @@ LeavesWritten s m found n = n ≡ (left_written m.0 (bytes_in m.1), rest m.1)
 abbrev pub Looks : Step Slot → Me Slot View → ℕ → Me Slot View → Type 0
 Looks s m found n = MatchBool (found == 0) ((n ≡ (saw_open m.0, m.1)) × (m.0.ended ≡ false)) (n ≡ (saw_closed m.0, m.1))
 
+-- a close
 abbrev pub Closes : Step Slot → Me Slot View → ℕ → Me Slot View → Type 0
 Closes s m found n = n ≡ (shut m.0, m.1)
 
@@ -82,5 +89,6 @@ pub record IsWhole (v : View) : Type 0 where
   pub few : length inside ≤ v.room
   pub over : v.ended ≡ true → (v.closed ≡ true) × (v.taken ≡ v.given)
 
+-- the look after the join
 abbrev pub Meets : Step Slot → Me Slot View → ℕ → Me Slot View → Type 0
 Meets s m found n = (n ≡ m) × IsWhole m.0

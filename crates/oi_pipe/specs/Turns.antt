@@ -29,9 +29,11 @@ pub record Ends : Type 0 where
   pub taken : List ℕ
   pub given : List ℕ
 
+-- a reader that has taken nothing
 abbrev pub new_reader : TableId → ℕ → Reader
 new_reader pipe room = record { pipe = pipe; room = room; taken = []; ended = false; busy = 0; waits = 0 }
 
+-- a writer that has given nothing
 abbrev pub new_writer : TableId → ℕ → Writer
 new_writer pipe room = record { pipe = pipe; room = room; given = []; closed = false; busy = 0; waits = 0 }
 

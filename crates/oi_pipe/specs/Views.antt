@@ -14,10 +14,11 @@ Slot = Option (Buffer ℕ)
 abbrev pub opened : ℕ → View
 opened room = record { room = room; reads = true; writes = true; holds = false; content = []; taken = []; given = []; closed = false; ended = false; busy = 0; waits = 0 }
 
--- the split: the reader's part and the writer's
+-- the split: the reader's part
 abbrev pub reading : View → View
 reading v = record v { writes = false }
 
+-- the split: the writer's part
 abbrev pub writing : View → View
 writing v = record v { reads = false }
 
@@ -61,6 +62,7 @@ saw_open v = record v { waits = v.waits + bit (v.reads && (v.holds && (length v.
 abbrev pub saw_closed : View → View
 saw_closed v = record v { ended = true }
 
+-- a close
 abbrev pub shut : View → View
 shut v = record v { closed = true }
 
@@ -69,6 +71,7 @@ abbrev pub bytes_of : Slot → List ℕ
 bytes_of None = []
 bytes_of (Some b) = b.items
 
+-- the bytes that are out with a seat: those in the slot that it took last
 abbrev pub bytes_in : List (ℕ × Slot) → List ℕ
 bytes_in [] = []
 bytes_in (x ∷ xs) = bytes_of x.1
@@ -89,12 +92,13 @@ pub record IsInside (table : TableId) (m : Me Slot View) : Type 0 where
   pub inside : m.0.holds ≡ true
   pub has_room : 0 < m.0.room
 
--- the two halves
+-- the seat of a reader outside its calls
 pub record IsReading (table : TableId) (m : Me Slot View) : Type 0 where
   pub outside : IsOutside table m
   pub reads : m.0.reads ≡ true
   pub writes : m.0.writes ≡ false
 
+-- the seat of a writer outside its calls
 pub record IsWriting (table : TableId) (m : Me Slot View) : Type 0 where
   pub outside : IsOutside table m
   pub reads : m.0.reads ≡ false
