@@ -8,7 +8,7 @@ abbrev pub IsTime : ℕ → Type 0
 IsTime seconds = (1 ≤ seconds) × (seconds ≤ most_seconds)
 
 pub record IsValidConfig (C : SessionConfig) : Type 0 where
-  pub tries : 1 ≤ C.tries
+  pub tries : (1 ≤ C.tries) × (C.tries ≤ 255)
   pub replacement : (negsuc 0 ≤ℤ C.replacement) × (C.replacement ≤ℤ pos most_replacement)
   pub noop_interval : C.noop_interval ≤ most_seconds
   pub noop_timeout : IsTime C.noop_timeout

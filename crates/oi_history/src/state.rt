@@ -63,7 +63,7 @@ impl Model for State {
 }
 
 impl State {
-    ghost use Rattle.std.specs.Prelude.{◌≡◌, ◌≤◌, ◌<◌, ◌+◌, ◌^◌, ◌==◌, ◌↔◌, ℕ, Some, None, [], IsTrue, false, IfOk, OnOk, OnErr, length, slice_get, not, count_by};
+    ghost use Rattle.std.specs.Prelude.{◌≡◌, ◌≤◌, ◌<◌, ◌+◌, ◌++◌, ◌^◌, ◌==◌, ◌↔◌, ℕ, Some, None, [], IsTrue, false, IfOk, OnOk, OnErr, length, slice_get, not, count_by};
     ghost use Rattle.oi_history.specs.Configs.{IsValidConfig};
     ghost use Rattle.oi_history.specs.Snapshots.{first_snapshot};
     ghost use Rattle.oi_history.specs.States.{IsCommandOf, IsSame, Steps};
@@ -246,6 +246,16 @@ impl State {
         ensures { result ≡ slice_get self.now.now.free 0 }
     {
         self.free.front().copied()
+    }
+
+    /// The tag that is free first once all ended tags are released.
+    pub fn first_tag(&self) -> Option<Tag>
+        ensures { result ≡ slice_get (self.now.now.free ++ self.now.now.ended) 0 }
+    {
+        match self.free.front() {
+            Some(tag) => Some(*tag),
+            None => self.ended.front().copied(),
+        }
     }
 
     /// The tag that ended first.

@@ -1,5 +1,6 @@
 -- What each call does and answers, one definition a call, one line an answer. Want of memory is free and changes nothing.
 use Rattle.std.specs.Prelude.{◌≡◌, ◌≢◌, ℕ, Bool, true, false, ◌+◌, ◌<◌, ◌≤◌, ◌++◌, ◌==◌, ◌||◌, ◌&&◌, List, [], ◌∷◌, Option, Some, None, Result, Ok, Err, length, slice_get, not, nat_le, if◌then◌else◌}
+use Rattle.oi_base.specs.Counts.{told}
 use Rattle.oi_base.specs.Limits.{most_pending}
 use Rattle.oi_base.specs.declared.login.LoginDone.{LoginDone}
 use Rattle.oi_history.specs.Acceptance.{is_current}
@@ -40,7 +41,7 @@ Submits old request (Ok receipt) new =
         × (new ≡ entered old (Submit receipt.id request))
 Submits old request (Err (SubmitEnded cause)) new = ((now_of old).phase ≡ Ended cause) × (new ≡ old)
 Submits old request (Err (Full waiting)) new =
-    (is_ended (now_of old).phase ≡ false) × (most_pending ≤ pending_of (now_of old)) × (waiting ≡ pending_of (now_of old)) × (new ≡ old)
+    (is_ended (now_of old).phase ≡ false) × (most_pending ≤ pending_of (now_of old)) × (waiting ≡ told (pending_of (now_of old))) × (new ≡ old)
 Submits old request (Err (SubmitSpent steps kept)) new = ⊥
 Submits old request (Err SubmitMemory) new = new ≡ old
 

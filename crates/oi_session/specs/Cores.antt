@@ -29,3 +29,9 @@ pub record IsKept (k : Kept) : Type 0 where
   pub legal : IsLegal k.state.config (reverse k.events.items)
   pub numbered : IsNumbered (reverse k.events.items)
   pub room : vec_len k.events + kept_back (is_ended k.state.now.phase) ≤ vec_capacity k.events
+
+-- room for the release of all tags that have ended, for one command, and for their entries
+pub record HasRoom (k : Kept) : Type 0 where
+  pub events : vec_len k.events + (length k.state.now.ended + 2) ≤ vec_capacity k.events
+  pub releases : length k.state.now.ended ≤ k.state.releases
+  pub takes : 1 ≤ k.state.takes

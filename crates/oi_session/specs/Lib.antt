@@ -1,3 +1,4 @@
 pub mod Sessions
 pub mod Calls
 pub mod Cores
+pub mod Plans

@@ -11,6 +11,7 @@ use Rattle.oi_history.specs.declared.event.Numbered.{Numbered}
 use Rattle.oi_history.specs.declared.fate.Delivered.{Delivered}
 use Rattle.oi_history.specs.declared.rule.Rule.{Rule}
 use Rattle.oi_window.specs.Numbering.{is_open, next_of}
+use Rattle.oi_window.specs.declared.window.Window.{Window}
 
 pub record Session : Type 0 where
   pub config : SessionConfig
@@ -37,19 +38,20 @@ reaped_by (tag ∷ tags) s = reaped_by tags (entered s (Reap tag))
 abbrev pub reaped : Session → Session
 reaped s = reaped_by (now_of s).ended s
 
--- the command of the least submission that waits, where the window is open and a tag is free
-abbrev pub issue_by : ℕ → Snapshot → Option ℕ → Option Tag → Option Event
-issue_by generation s None tag = None
-issue_by generation s (Some id) None = None
-issue_by generation s (Some id) (Some tag) = Some (Issue id generation tag (next_of s.window))
+-- the command of the least submission that waits, where a tag is free
+abbrev pub issue_by : ℕ → Window → Option ℕ → Option Tag → Option Event
+issue_by generation w None tag = None
+issue_by generation w (Some id) None = None
+issue_by generation w (Some id) (Some tag) = Some (Issue id generation tag (next_of w))
 
-abbrev pub next_on : Option Rule → ℕ → Snapshot → Option Event
-next_on (Some rule) generation s = None
-next_on None generation s = if is_open s.window then issue_by generation s (waiting_in s.tasks) (slice_get s.free 0) else None
+-- on a broken connection nothing is sent, and no command past MaxCmdSN
+abbrev pub next_on : Option Rule → ℕ → Window → Option ℕ → Option Tag → Option Event
+next_on (Some rule) generation w id tag = None
+next_on None generation w id tag = if is_open w then issue_by generation w id tag else None
 
--- the next PDU to send, once all ended tags are released; on a broken connection nothing is
+-- the next PDU to send, once all ended tags are released
 abbrev pub next_to_send : ℕ → Snapshot → Option Event
-next_to_send generation s = next_on s.broken generation s
+next_to_send generation s = next_on s.broken generation s.window (waiting_in s.tasks) (slice_get s.free 0)
 
 -- what a session came to: its number, settings, entries by number, and what it handed out in order
 pub record RunView : Type 0 where

@@ -1,11 +1,10 @@
-ghost use Rattle.std.specs.Prelude.{◌≡◌, ◌≤◌, ◌<◌, ◌+◌, ◌↔◌, [], ◌∷◌, ◌++◌, ℕ, Some, None, true, false, IfOk, IsTrue, OnOk, OnErr, length, slice_get, vec_len, count_by, not};
+ghost use Rattle.std.specs.Prelude.{◌≡◌, ◌≤◌, ◌<◌, ◌+◌, ◌↔◌, [], ◌∷◌, ◌++◌, ℕ, Some, None, true, false, IfOk, IsTrue, OnOk, OnErr, length, slice_get, vec_len, count_by, not, drop};
 ghost use Rattle.std.specs.Vec.{vec_capacity};
 ghost use Rattle.oi_history.specs.Configs.{IsValidConfig};
 ghost use Rattle.oi_history.specs.Legality.{Allows};
 ghost use Rattle.oi_history.specs.declared.event.Event.TheVariants.{Deliver, Issue, Login, PduIn, Reap, Submit, Terminate};
-ghost use Rattle.oi_session.specs.Cores.{IsKept, session_of};
+ghost use Rattle.oi_session.specs.Cores.{HasRoom, IsKept, session_of};
 ghost use Rattle.oi_session.specs.Sessions.{entered, now_of};
-ghost use Rattle.oi_window.specs.Numbering.{next_of};
 
 use oi_base::{LoginDone, NoMemory, Tag};
 use oi_history::{End, Event, Numbered, SessionConfig, State};
@@ -16,6 +15,7 @@ use std::alloc::Global;
 /// The state of a session and the list of its entries, which agree.
 #[derive(Debug, Drop)]
 pub struct Kept {
+    pub alloc: Global,
     pub state: State,
     pub events: Vec<Numbered>,
 }
@@ -28,7 +28,7 @@ pub fn new(alloc: Global, config: SessionConfig) -> Result<Kept, NoMemory>
 {
     let state = State::new(alloc, config)?;
     let events = Vec::with_capacity(alloc, 2)?;
-    Ok(Kept { state, events })
+    Ok(Kept { alloc, state, events })
 }
 
 /// Makes room for so many entries, and for the end behind them.
@@ -42,6 +42,19 @@ pub fn make_room(kept: &mut Kept, count: usize) -> Result<(), NoMemory>
     let count = count.checked_add(1).ok_or(NoMemory)?;
     kept.events.reserve(count)?;
     Ok(())
+}
+
+/// Makes room for the release of all tags that have ended, for one command and for their entries.
+pub fn make_all_room(kept: &mut Kept) -> Result<(), NoMemory>
+    requires { IsKept kept.old }
+    ensures kept { IsKept kept.new }
+    ensures same { session_of kept.new ≡ session_of kept.old }
+    ensures room { OnOk result (HasRoom kept.new) }
+{
+    let releases = kept.state.ended();
+    let count = releases.checked_add(1).ok_or(NoMemory)?;
+    make_room(kept, count)?;
+    kept.state.make_room(releases)
 }
 
 fn record(events: &mut Vec<Numbered>, event: Event)
@@ -116,15 +129,14 @@ pub fn enter_deliver(kept: &mut Kept, count: u32)
 }
 
 /// The command of a submission goes out.
-pub fn enter_issue(kept: &mut Kept, id: u64, generation: u64, tag: Tag)
+pub fn enter_issue(kept: &mut Kept, id: u64, generation: u64, tag: Tag, cmdsn: u32)
     requires kept { IsKept kept.old }
     requires room { vec_len kept.old.events + 2 ≤ vec_capacity kept.old.events }
     requires takes { 0 < kept.old.state.takes }
-    requires allowed { Allows (now_of (session_of kept.old)) (Issue id generation tag (next_of (now_of (session_of kept.old)).window)) }
+    requires allowed { Allows (now_of (session_of kept.old)) (Issue id generation tag cmdsn) }
     ensures kept { IsKept kept.new }
-    ensures session { session_of kept.new ≡ entered (session_of kept.old) (Issue id generation tag (next_of (now_of (session_of kept.old)).window)) }
+    ensures session { session_of kept.new ≡ entered (session_of kept.old) (Issue id generation tag cmdsn) }
 {
-    let cmdsn = kept.state.window().next().0;
     kept.state.issue(id, generation, tag);
     let event = Event::Issue {
         id,
@@ -145,6 +157,7 @@ pub fn enter_reap(kept: &mut Kept, tag: Tag)
     ensures session { session_of kept.new ≡ entered (session_of kept.old) (Reap tag) }
     ensures releases { kept.new.state.releases + 1 ≡ kept.old.state.releases }
     ensures takes { kept.old.state.takes ≤ kept.new.state.takes }
+    ensures ended { kept.new.state.now.ended ≡ drop 1 kept.old.state.now.ended }
     ensures len { vec_len kept.new.events ≡ vec_len kept.old.events + 1 }
     ensures capacity { vec_capacity kept.new.events ≡ vec_capacity kept.old.events }
 {

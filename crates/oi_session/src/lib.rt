@@ -2,6 +2,12 @@
 #![tactic(auto)]
 
 mod answers;
+mod calls;
 mod kept;
+mod run;
+mod sending;
+mod solo;
 
+pub use run::Run;
+pub use solo::Solo;
 pub use answers::{AlreadyEnded, LoginRefused, Receipt, Received, StepRefused, SubmitRefused, Transmit};
