@@ -1,0 +1,53 @@
+use oi_base::{Blob, NoMemory, Params};
+use oi_scsi::Request;
+use std::alloc::AllocError;
+use thiserror::Error;
+
+/// One input line of `drive`.
+#[derive(Debug, Drop)]
+pub enum DriveLine {
+    /// The connection reached the full feature phase.
+    Login {
+        cmdsn: u32,
+        max: u32,
+        exp_stat: u32,
+        params: Params,
+    },
+    Submit { request: Request },
+    /// So many PDUs at most are sent.
+    Send { count: u32 },
+    /// Bytes of the target on the connection with this generation.
+    Recv { generation: u64, bytes: Blob },
+    End,
+}
+
+/// Why a line was not read.
+#[derive(Clone, Copy, Debug, PartialEq, Eq, Drop, Error)]
+pub enum LineFault {
+    #[error("the line is none of the language")]
+    Bad,
+    #[error("out of memory")]
+    Memory,
+}
+
+impl From<NoMemory> for LineFault {
+    ghost use Rattle.oi_script.specs.declared.line.LineFault.TheVariants.{Memory};
+    ghost use Rattle.std.specs.Prelude.{◌≡◌};
+
+    ghost from_gives = { λ _ e. e ≡ Memory };
+
+    fn from(_e: NoMemory) -> LineFault {
+        LineFault::Memory
+    }
+}
+
+impl From<AllocError> for LineFault {
+    ghost use Rattle.oi_script.specs.declared.line.LineFault.TheVariants.{Memory};
+    ghost use Rattle.std.specs.Prelude.{◌≡◌};
+
+    ghost from_gives = { λ _ e. e ≡ Memory };
+
+    fn from(_e: AllocError) -> LineFault {
+        LineFault::Memory
+    }
+}
