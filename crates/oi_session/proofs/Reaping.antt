@@ -1,12 +1,14 @@
 -- The release of all ended tags, and what can be sent behind it.
-use Rattle.std.proofs.Common.{◌≡◌, ◌∙◌, ℕ, Bool, true, false, List, [], ◌∷◌, ◌++◌, ◌+◌, ◌≤◌, Option, Some, None, drop, length, vec_len, arith, sym, ap, subst, refl, append-nil, append_assoc, slice_get, if◌then◌else◌}
+use Rattle.std.proofs.Common.{◌≡◌, ◌∙◌, ℕ, Bool, true, false, List, [], ◌∷◌, ◌++◌, ◌+◌, ◌≤◌, Option, Some, None, drop, length, vec_len, arith, ◌<◌, suc, zero, nat_lt, cond, sym, ap, subst, refl, append-nil, append_assoc, slice_get, if◌then◌else◌}
+use Rattle.std.proofs.lemmas.Bool.Decides.{nat_tests}
+use Rattle.std.specs.List.{position_or_len}
 use Rattle.std.specs.Vec.{vec_capacity}
 use Rattle.oi_base.specs.declared.login.Params.{Params}
 use Rattle.oi_base.specs.declared.tag.Tag.{Tag}
 use Rattle.oi_history.specs.Legality.{Allows}
 use Rattle.oi_history.specs.Phases.{is_ended, is_logged_in}
 use Rattle.oi_history.specs.Snapshots.{Snapshot}
-use Rattle.oi_history.specs.Tasks.{waiting_in}
+use Rattle.oi_history.specs.Tasks.{is_waiting, waiting_in}
 use Rattle.oi_history.specs.declared.event.Event.{Event}
 use Rattle.oi_history.specs.declared.event.Event.TheVariants.{Issue, Reap}
 use Rattle.oi_history.specs.declared.phase.Phase.{Phase}
@@ -14,11 +16,10 @@ use Rattle.oi_history.specs.declared.rule.Rule.{Rule}
 use Rattle.oi_history.specs.Sending.{command_pdu}
 use Rattle.oi_history.specs.declared.task.Task.{Task}
 use Rattle.oi_pdu.specs.Wire.{encoding}
-use Rattle.oi_session.specs.Calls.{SendsPdu}
 use Rattle.oi_session.specs.Cores.{HasRoom, IsKept, session_of}
 use Rattle.oi_session.specs.Plans.{planned}
 use Rattle.oi_session.specs.declared.kept.Kept.{Kept}
-use Rattle.oi_session.specs.Sessions.{Session, entered, issue_by, next_on, next_to_send, now_of, reaped, reaped_by}
+use Rattle.oi_session.specs.Sessions.{Session, entered, issue_by, next_on, next_to_send, now_of, reaped, reaped_by, sent_bytes}
 use Rattle.oi_window.specs.Numbering.{is_open, next_of}
 use Rattle.oi_window.specs.declared.window.Window.{Window}
 
@@ -84,12 +85,28 @@ planned_allowed g s id tag cmdsn live is =
     let p = parts (now_of (reaped s)).broken g (now_of (reaped s)).window (waiting_in (now_of (reaped s)).tasks) (slice_get (now_of (reaped s)).free 0) id tag cmdsn (planned_is_next g s ∙ is) in
     (p.waits, ap (λ (f : Phase). is_logged_in f g) r.phase ∙ live, p.unbroken, p.number, p.opened, p.first, r.ended)
 
+there_by : (ts : List Task) (n id : ℕ) (b : Bool) → nat_lt n (length ts) ≡ b → cond b (Some n) None ≡ Some id → id < length ts
+there_by ts n id true less is = let same : n ≡ id = cc in grind (arith, nat_tests)
+there_by ts n id false less is = absurd cc
+
+get_there : (ts : List Task) (id : ℕ) → id < length ts → (t : Task) × (slice_get ts id ≡ Some t)
+get_there [] id h = absurd (omega arith)
+get_there (t ∷ ts) zero h = (t, refl)
+get_there (t ∷ ts) (suc id) h = get_there ts id (omega arith)
+
+-- the submission that waits is there
+pub waiting_there : (ts : List Task) (id : ℕ) → waiting_in ts ≡ Some id → (t : Task) × (slice_get ts id ≡ Some t)
+waiting_there ts id is = get_there ts id (there_by ts (position_or_len (λ t. is_waiting t.fate) ts) id _ refl is)
+
 -- what goes out is what was planned
-pub sends_planned : (generation : ℕ) (s : Session) (id : ℕ) (tag : Tag) (cmdsn : ℕ) (bytes : List ℕ)
-  → ((t : Task) → slice_get (now_of s).tasks id ≡ Some t → bytes ≡ encoding (command_pdu (now_of s).params (now_of s).stat t.command tag cmdsn)) → SendsPdu (now_of (reaped s)) (Issue id generation tag cmdsn) bytes
-sends_planned g s id tag cmdsn bytes plan t at =
+pub sends_planned : (generation : ℕ) (s : Session) (id : ℕ) (tag : Tag) (cmdsn : ℕ) (bytes : List ℕ) → planned generation (now_of s) ≡ Some (Issue id generation tag cmdsn)
+  → ((t : Task) → slice_get (now_of s).tasks id ≡ Some t → bytes ≡ encoding (command_pdu (now_of s).params (now_of s).stat t.command tag cmdsn))
+  → bytes ≡ sent_bytes (now_of (reaped s)) (Issue id generation tag cmdsn)
+sends_planned g s id tag cmdsn bytes is plan =
     let r = reaps s in
-    rw (r.params, r.stat) (plan t (subst (λ (ts : List Task). slice_get ts id ≡ Some t) r.tasks at))
+    let p = parts (now_of s).broken g (now_of s).window (waiting_in (now_of s).tasks) (slice_get ((now_of s).free ++ (now_of s).ended) 0) id tag cmdsn is in
+    let here = waiting_there (now_of s).tasks id p.waits in
+    rw (r.params, r.stat, r.tasks, here.1) (plan here.0 here.1)
 
 -- the release of what is left leads to what the release of all leads to
 pub record IsReaping (first now : Kept) : Type 0 where

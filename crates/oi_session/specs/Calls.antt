@@ -21,7 +21,7 @@ use Rattle.oi_pdu.specs.declared.codec.Pdu.{Pdu}
 use Rattle.oi_pdu.specs.declared.header.Header.{Header}
 use Rattle.oi_pdu.specs.declared.header.Header.TheVariants.{Async}
 use Rattle.oi_scsi.specs.declared.request.Request.{Request}
-use Rattle.oi_session.specs.Sessions.{Session, entered, next_to_send, now_of, pending_of, reaped}
+use Rattle.oi_session.specs.Sessions.{Session, entered, next_to_send, now_of, pending_of, reaped, sent_bytes}
 use Rattle.oi_session.specs.declared.answers.AlreadyEnded.{AlreadyEnded}
 use Rattle.oi_session.specs.declared.answers.LoginRefused.{LoginRefused}
 use Rattle.oi_session.specs.declared.answers.LoginRefused.TheVariants.{Ended as LoginEnded, LoggedIn as LoginTwice, Spent as LoginSpent, Memory as LoginMemory}
@@ -54,12 +54,6 @@ LogsIn old done (Err (LoginTwice current)) new = ((now_of old).phase ≡ LoggedI
 LogsIn old done (Err (LoginSpent steps kept)) new = ⊥
 LogsIn old done (Err LoginMemory) new = new ≡ old
 
--- the PDU that an entry sends
-abbrev pub SendsPdu : Snapshot → Event → List ℕ → Type 0
-SendsPdu s (Issue id generation tag cmdsn) bytes =
-    (t : Task) → slice_get s.tasks id ≡ Some t → bytes ≡ encoding (command_pdu s.params s.stat t.command tag cmdsn)
-SendsPdu s e bytes = ⊥
-
 -- a transmission: first all ended tags are released, then the next PDU is sent, where there is one
 abbrev pub Transmits : Session → ℕ → List ℕ → Result Transmit StepRefused → Session → List ℕ → Type 0
 Transmits old generation before (Ok (NotLoggedIn phase)) new after =
@@ -70,7 +64,7 @@ Transmits old generation before (Ok Idle) new after =
     (is_logged_in (now_of old).phase generation ≡ true) × (next_to_send generation (now_of (reaped old)) ≡ None) × (new ≡ reaped old) × (after ≡ before)
 Transmits old generation before (Ok (Sent e)) new after =
     (is_logged_in (now_of old).phase generation ≡ true) × (next_to_send generation (now_of (reaped old)) ≡ Some e) × (new ≡ entered (reaped old) e)
-        × ((bytes : List ℕ) × SendsPdu (now_of (reaped old)) e bytes × (after ≡ before ++ bytes))
+        × (after ≡ before ++ sent_bytes (now_of (reaped old)) e)
 Transmits old generation before (Err (StepSpent steps kept)) new after = ⊥
 Transmits old generation before (Err StepMemory) new after = (new ≡ old) × (after ≡ before)
 

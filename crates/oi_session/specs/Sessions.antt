@@ -1,7 +1,9 @@
 -- What contracts see of a session: its settings and its history, the newest entry first.
 use Rattle.std.specs.Prelude.{ℕ, Bool, true, false, ◌+◌, not, List, [], ◌∷◌, ◌++◌, Option, Some, None, length, count_by, slice_get, reverse, if◌then◌else◌}
+use Rattle.std.specs.Option.{option_map_or}
 use Rattle.oi_base.specs.declared.tag.Tag.{Tag}
 use Rattle.oi_history.specs.Histories.{deliveries, enter, snapshot}
+use Rattle.oi_history.specs.Sending.{command_pdu}
 use Rattle.oi_history.specs.Snapshots.{Snapshot}
 use Rattle.oi_history.specs.Tasks.{is_done, waiting_in}
 use Rattle.oi_history.specs.declared.config.SessionConfig.{SessionConfig}
@@ -10,6 +12,7 @@ use Rattle.oi_history.specs.declared.event.Event.TheVariants.{Issue, Reap}
 use Rattle.oi_history.specs.declared.event.Numbered.{Numbered}
 use Rattle.oi_history.specs.declared.fate.Delivered.{Delivered}
 use Rattle.oi_history.specs.declared.rule.Rule.{Rule}
+use Rattle.oi_pdu.specs.Wire.{encoding}
 use Rattle.oi_window.specs.Numbering.{is_open, next_of}
 use Rattle.oi_window.specs.declared.window.Window.{Window}
 
@@ -52,6 +55,11 @@ next_on None generation w id tag = if is_open w then issue_by generation w id ta
 -- the next PDU to send, once all ended tags are released
 abbrev pub next_to_send : ℕ → Snapshot → Option Event
 next_to_send generation s = next_on s.broken generation s.window (waiting_in s.tasks) (slice_get s.free 0)
+
+-- the encoding of the PDU that an entry sends
+abbrev pub sent_bytes : Snapshot → Event → List ℕ
+sent_bytes s (Issue id generation tag cmdsn) = option_map_or (λ t. encoding (command_pdu s.params s.stat t.command tag cmdsn)) (slice_get s.tasks id) []
+sent_bytes s e = []
 
 -- what a session came to: its number, settings, entries by number, and what it handed out in order
 pub record RunView : Type 0 where

@@ -31,4 +31,4 @@ returns-in_ok-make_all_room-in-Some-clause-call c =
     let session : session_of c.reap_all-in-Some.new.kept ≡ reaped s = c.reap_all-in-Some.ensures.session ∙ ap reaped c.make_all_room-in-Some.ensures.same in
     subst (λ (r : Transmit). Transmits s g c.args.out.now.items (Ok r) (session_of c.send.new.kept) c.send.new.out.items) (sym c.send.ensures.answer)
         (c.requires.live, planned_is_next g s ∙ plan.0, c.send.ensures.session ∙ ap (λ (z : Session). entered z (Issue p.id g p.tag p.cmdsn)) session,
-            (p.bytes.items, sends_planned g s p.id p.tag p.cmdsn p.bytes.items plan.1, c.send.ensures.bytes ∙ ap (λ (z : List ℕ). z ++ p.bytes.items) c.reserve.ensures.items))
+            c.send.ensures.bytes ∙ (ap (λ (z : List ℕ). z ++ p.bytes.items) c.reserve.ensures.items ∙ ap (λ (z : List ℕ). c.args.out.now.items ++ z) (sends_planned g s p.id p.tag p.cmdsn p.bytes.items plan.0 plan.1)))
