@@ -1,4 +1,4 @@
-ghost use Rattle.std.specs.Prelude.{◌≡◌, ◌+◌, ℕ, List, [], ◌++◌, ◌≤◌, ◌<◌, length, take, drop, IfOk, IfErr, OnOk, OnErr, IfSome, IfNone, MatchResult};
+ghost use Rattle.std.specs.Prelude.{◌≡◌, ◌+◌, ℕ, List, [], ◌++◌, ◌≤◌, ◌<◌, length, take, drop, IfOk, IfErr, OnOk, OnErr, IfSome, IfNone, MatchBool};
 ghost use Rattle.std.specs.List.{prefix_len};
 ghost use Rattle.oi_base.specs.Counts.{told};
 ghost use Rattle.oi_text.specs.Pairs.{is_key_byte, is_value_byte, IsPair, spelled, pair_text, text_of, ArePairs, NoPair, IsText, IsFault};
@@ -6,10 +6,6 @@ ghost use Rattle.oi_text.specs.Pairs.{is_key_byte, is_value_byte, IsPair, spelle
 use oi_base::{Label, NoMemory, Series};
 use std::alloc::Global;
 use thiserror::Error;
-
-const LONGEST_KEY: usize = 63;
-
-const LONGEST_VALUE: usize = 8192;
 
 /// One key with its value.
 #[derive(Debug, PartialEq, Eq, Drop)]
@@ -68,7 +64,7 @@ fn first_pair(bytes: &[u8]) -> Option<Piece<'_>>
     if key == 0 {
         return None;
     }
-    if LONGEST_KEY < key {
+    if is_long_key(key) {
         return None;
     }
     if bytes.len() <= key {
@@ -79,7 +75,7 @@ fn first_pair(bytes: &[u8]) -> Option<Piece<'_>>
     }
     let rest = after(bytes, key + 1);
     let value = value_length(rest);
-    if LONGEST_VALUE < value {
+    if is_long_value(value) {
         return None;
     }
     if rest.len() <= value {
@@ -90,6 +86,18 @@ fn first_pair(bytes: &[u8]) -> Option<Piece<'_>>
         value: before(rest, value),
         more: after(rest, value + 1),
     })
+}
+
+fn is_long_key(length: usize) -> bool
+    ensures { MatchBool result (63 < length) (length ≤ 63) }
+{
+    63 < length
+}
+
+fn is_long_value(length: usize) -> bool
+    ensures { MatchBool result (8192 < length) (length ≤ 8192) }
+{
+    8192 < length
 }
 
 fn key_length(bytes: &[u8]) -> usize

@@ -8,8 +8,8 @@ pub returns-then-key-eq0-clause-none : goal.returns-then-key-eq0-clause-none
 returns-then-key-eq0-clause-none c = λ key value more pair whole.
     let r = reads c.args.bytes.now key value more pair whole in omega arith
 
-pub returns-then-key-gt-LONGEST_KEY-clause-none : goal.returns-then-key-gt-LONGEST_KEY-clause-none
-returns-then-key-gt-LONGEST_KEY-clause-none c = λ key value more pair whole.
+pub returns-then-is_long_key-clause-none : goal.returns-then-is_long_key-clause-none
+returns-then-is_long_key-clause-none c = λ key value more pair whole.
     let r = reads c.args.bytes.now key value more pair whole in omega arith
 
 pub returns-then-bytes-key-clause-none : goal.returns-then-bytes-key-clause-none
@@ -22,8 +22,8 @@ returns-then-bytes-key-ne61-clause-none c = λ key value more pair whole.
     let k : c.key_length-key.result ≡ length key = c.key_length-key.ensures ∙ r.key_length in
     grind (arith, r)
 
-pub returns-then-value-gt-LONGEST_VALUE-clause-none : goal.returns-then-value-gt-LONGEST_VALUE-clause-none
-returns-then-value-gt-LONGEST_VALUE-clause-none c = λ key value more pair whole.
+pub returns-then-is_long_value-clause-none : goal.returns-then-is_long_value-clause-none
+returns-then-is_long_value-clause-none c = λ key value more pair whole.
     let r = reads c.args.bytes.now key value more pair whole in
     let rest : c.after-rest.result.now ≡ drop (length key + 1) c.args.bytes.now =
     c.after-rest.ensures ∙ ap (λ (n : ℕ). drop (n + 1) c.args.bytes.now) (c.key_length-key.ensures ∙ r.key_length) in
