@@ -1,0 +1,2 @@
+pub mod Chap
+pub mod Streams
