@@ -1,10 +1,11 @@
 -- The input lines of `drive`: words that one blank parts.
-use Rattle.std.specs.Prelude.{ℕ, Bool, true, ◌-◌, ◌+◌, ◌^◌, ◌==◌, ◌||◌, List, [], ◌∷◌, Option, Some, None, codes, length, nat_le, if◌then◌else◌}
+use Rattle.std.specs.Prelude.{ℕ, ◌≤◌, Bool, true, ◌-◌, ◌+◌, ◌^◌, ◌==◌, ◌||◌, List, [], ◌∷◌, Option, Some, None, codes, length, nat_le, if◌then◌else◌}
 use Rattle.std.specs.List.{slice_split}
 use Rattle.std.specs.Result.{result_ok}
 use Rattle.hex.specs.Hex.{decode_of}
 use Rattle.oi_base.specs.Limits.{address_end, most_blocks}
 use Rattle.oi_base.specs.declared.login.Params.{Params}
+use Rattle.oi_scsi.specs.Requests.{IsValid}
 use Rattle.oi_scsi.specs.declared.request.Kind.TheVariants.{Read, Capacity}
 use Rattle.oi_scsi.specs.declared.request.Request.{Request}
 use Rattle.oi_script.specs.Numbers.{is_text, number_in}
@@ -71,3 +72,11 @@ line_of_words ws = None
 -- what a line says; none outside the language
 abbrev pub drive_line : List ℕ → Option DriveLine
 drive_line line = line_of_words (words_of line)
+
+-- what a line asks of the session can be asked
+abbrev pub IsValidLine : DriveLine → Type 0
+IsValidLine (Login cmdsn max exp_stat params) = 1 ≤ params.max_send
+IsValidLine (Submit request) = IsValid request.kind
+IsValidLine (Send count) = Unit {0}
+IsValidLine (Recv generation bytes) = Unit {0}
+IsValidLine End = Unit {0}

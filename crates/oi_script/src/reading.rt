@@ -1,5 +1,5 @@
-ghost use Rattle.std.specs.Prelude.{◌≡◌, ◌<◌, ◌-◌, ◌^◌, ◌∷◌, [], ℕ, Some, IfOk, map};
-ghost use Rattle.oi_script.specs.Lines.{bytes_of, capacity_of, drive_line, line_of_words, login_of, read_of, recv_of, send_of, standard_params, words_of};
+ghost use Rattle.std.specs.Prelude.{◌≡◌, ◌<◌, ◌≤◌, ◌-◌, ◌^◌, ◌∷◌, [], ℕ, Some, IfOk, IfSome, map};
+ghost use Rattle.oi_script.specs.Lines.{IsValidLine, bytes_of, capacity_of, drive_line, line_of_words, login_of, read_of, recv_of, send_of, standard_params, words_of};
 ghost use Rattle.oi_script.specs.Numbers.{number_in};
 ghost use Rattle.oi_script.specs.Readings.{IsReading};
 
@@ -33,7 +33,8 @@ fn login(a: Option<u64>, b: Option<u64>, c: Option<u64>) -> Option<DriveLine>
     requires a { (n : ℕ) → a ≡ Some n → n < 2 ^ 32 }
     requires b { (n : ℕ) → b ≡ Some n → n < 2 ^ 32 }
     requires c { (n : ℕ) → c ≡ Some n → n < 2 ^ 32 }
-    ensures { result ≡ login_of a b c }
+    ensures line { result ≡ login_of a b c }
+    ensures valid { IfSome result (λ l. IsValidLine l) }
 {
     match (a, b, c) {
         (Some(cmdsn), Some(max), Some(exp_stat)) => Some(DriveLine::Login {
@@ -48,7 +49,8 @@ fn login(a: Option<u64>, b: Option<u64>, c: Option<u64>) -> Option<DriveLine>
 
 fn capacity(a: Option<u64>) -> Option<DriveLine>
     requires { (n : ℕ) → a ≡ Some n → n < 256 }
-    ensures { result ≡ capacity_of a }
+    ensures line { result ≡ capacity_of a }
+    ensures valid { IfSome result (λ l. IsValidLine l) }
 {
     match a {
         Some(lun) => Some(DriveLine::Submit {
@@ -63,8 +65,9 @@ fn capacity(a: Option<u64>) -> Option<DriveLine>
 
 fn read(a: Option<u64>, b: Option<u64>, c: Option<u64>) -> Option<DriveLine>
     requires a { (n : ℕ) → a ≡ Some n → n < 256 }
-    requires c { (n : ℕ) → c ≡ Some n → n < 2 ^ 16 }
-    ensures { result ≡ read_of a b c }
+    requires c { (n : ℕ) → c ≡ Some n → (1 ≤ n) × (n ≤ 2048) }
+    ensures line { result ≡ read_of a b c }
+    ensures valid { IfSome result (λ l. IsValidLine l) }
 {
     match (a, b, c) {
         (Some(lun), Some(lba), Some(blocks)) if lba <= (1 << 63) - blocks => Some(DriveLine::Submit {
@@ -82,7 +85,8 @@ fn read(a: Option<u64>, b: Option<u64>, c: Option<u64>) -> Option<DriveLine>
 
 fn send(a: Option<u64>) -> Option<DriveLine>
     requires { (n : ℕ) → a ≡ Some n → n < 2 ^ 32 }
-    ensures { result ≡ send_of a }
+    ensures line { result ≡ send_of a }
+    ensures valid { IfSome result (λ l. IsValidLine l) }
 {
     match a {
         Some(count) => Some(DriveLine::Send { count: count as u32 }),
@@ -105,7 +109,8 @@ fn bytes(alloc: Global, text: &[u8]) -> Result<Option<Blob>, AllocError>
 }
 
 fn recv(alloc: Global, a: &[u8], b: &[u8]) -> Result<Option<DriveLine>, AllocError>
-    ensures { IfOk result (λ o. o ≡ recv_of (number_in 1 (2 ^ 64 - 1) a.now) (bytes_of b.now)) }
+    ensures line { IfOk result (λ o. o ≡ recv_of (number_in 1 (2 ^ 64 - 1) a.now) (bytes_of b.now)) }
+    ensures valid { IfOk result (λ o. IfSome o (λ l. IsValidLine l)) }
 {
     let generation = number(a, 1, u64::MAX);
     let bytes = bytes(alloc, b)?;
@@ -116,13 +121,15 @@ fn recv(alloc: Global, a: &[u8], b: &[u8]) -> Result<Option<DriveLine>, AllocErr
 }
 
 fn one_word(w: &[u8]) -> Option<DriveLine>
-    ensures { result ≡ line_of_words (w.now ∷ []) }
+    ensures line { result ≡ line_of_words (w.now ∷ []) }
+    ensures valid { IfSome result (λ l. IsValidLine l) }
 {
     if is_text(w, b"end") { Some(DriveLine::End) } else { None }
 }
 
 fn two_words(w: &[u8], a: &[u8]) -> Option<DriveLine>
-    ensures { result ≡ line_of_words (w.now ∷ a.now ∷ []) }
+    ensures line { result ≡ line_of_words (w.now ∷ a.now ∷ []) }
+    ensures valid { IfSome result (λ l. IsValidLine l) }
 {
     if is_text(w, b"capacity") {
         capacity(number(a, 0, 255))
@@ -134,13 +141,15 @@ fn two_words(w: &[u8], a: &[u8]) -> Option<DriveLine>
 }
 
 fn three_words(alloc: Global, w: &[u8], a: &[u8], b: &[u8]) -> Result<Option<DriveLine>, AllocError>
-    ensures { IfOk result (λ o. o ≡ line_of_words (w.now ∷ a.now ∷ b.now ∷ [])) }
+    ensures line { IfOk result (λ o. o ≡ line_of_words (w.now ∷ a.now ∷ b.now ∷ [])) }
+    ensures valid { IfOk result (λ o. IfSome o (λ l. IsValidLine l)) }
 {
     if is_text(w, b"recv") { recv(alloc, a, b) } else { Ok(None) }
 }
 
 fn four_words(w: &[u8], a: &[u8], b: &[u8], c: &[u8]) -> Option<DriveLine>
-    ensures { result ≡ line_of_words (w.now ∷ a.now ∷ b.now ∷ c.now ∷ []) }
+    ensures line { result ≡ line_of_words (w.now ∷ a.now ∷ b.now ∷ c.now ∷ []) }
+    ensures valid { IfSome result (λ l. IsValidLine l) }
 {
     if is_text(w, b"login") {
         login(number(a, 0, MOST), number(b, 0, MOST), number(c, 0, MOST))
@@ -159,7 +168,8 @@ fn words(alloc: Global, line: &[u8]) -> Result<Vec<&[u8]>, AllocError>
 }
 
 fn by_words(alloc: Global, words: &[&[u8]]) -> Result<Option<DriveLine>, AllocError>
-    ensures { IfOk result (λ o. o ≡ line_of_words (map (λ w. w.now) words.now)) }
+    ensures line { IfOk result (λ o. o ≡ line_of_words (map (λ w. w.now) words.now)) }
+    ensures valid { IfOk result (λ o. IfSome o (λ l. IsValidLine l)) }
 {
     match words {
         [w] => Ok(one_word(w)),
@@ -172,7 +182,8 @@ fn by_words(alloc: Global, words: &[&[u8]]) -> Result<Option<DriveLine>, AllocEr
 
 /// Reads one line, without its line feed.
 pub fn read_drive(alloc: Global, line: &[u8]) -> Result<DriveLine, LineFault>
-    ensures { IsReading (drive_line line.now) result }
+    ensures line { IsReading (drive_line line.now) result }
+    ensures valid { IfOk result (λ l. IsValidLine l) }
 {
     let words = words(alloc, line)?;
     match by_words(alloc, &words)? {
