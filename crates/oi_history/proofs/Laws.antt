@@ -82,9 +82,9 @@ no_wait_host a k n never = record { fewer = λ tries is. absurd (never tries is)
 row_may_wait : (a k response status : ℕ) (r : Residual) (l p : ℕ) (reads : Bool) → MayWait a k (row_of_reply response status r l p reads Free k a)
 row_may_wait a k response status r l p reads =
     never_waits a k (not (response == 0)) (Fails Error) _ (no_wait_host a k _ (λ tries is. cc))
-        (may_wait_if a k (is_busy status) (nat_lt k a) true _ (lt_from_test k a)
-            (never_waits a k _ (Fails BadTarget) _ (no_wait_host a k _ (λ tries is. cc))
-                (never_waits a k _ (Fails Error) Answer (no_wait_host a k _ (λ tries is. cc)) (no_wait_host a k _ (λ tries is. cc)))))
+    (may_wait_if a k (is_busy status) (nat_lt k a) true _ (lt_from_test k a)
+    (never_waits a k _ (Fails BadTarget) _ (no_wait_host a k _ (λ tries is. cc))
+    (never_waits a k _ (Fails Error) Answer (no_wait_host a k _ (λ tries is. cc)) (no_wait_host a k _ (λ tries is. cc)))))
 
 settled_has : (a at k : ℕ) (r : ReplyData) (t : Task) (n : Next) → HasTry a t → MayWait a k n → HasTry a (settled at r t n)
 settled_has a at k r t Stay p m = p
@@ -152,7 +152,7 @@ first_waits : (a from id : ℕ) (t : Task) (ts : List Task) → HasTry a t → i
 first_waits a from id t ts p waits same = record {
   after = omega arith;
   ready = λ k is. let none : k ≡ 0 = omega arith in
-    record { place = omega arith; tries = λ x at. let mine : slice_get (t ∷ ts) 0 ≡ Some x = subst (λ (i : ℕ). slice_get (t ∷ ts) i ≡ Some x) none at in let there : t ≡ x = cc in subst (λ (y : Task). tries_of y.fate < a) there (p.left waits) }
+      record { place = omega arith; tries = λ x at. let mine : slice_get (t ∷ ts) 0 ≡ Some x = subst (λ (i : ℕ). slice_get (t ∷ ts) i ≡ Some x) none at in let there : t ≡ x = cc in subst (λ (y : Task). tries_of y.fate < a) there (p.left waits) };
 }
 
 later_waits : (a from id : ℕ) (t : Task) (ts : List Task) → IsFrom a (from + 1) id ts → IsFrom a from id (t ∷ ts)
@@ -163,9 +163,10 @@ later_waits a from id t ts later = record { after = omega (arith, later.after); 
     go (suc k) is = let r : IsReady a k ts = later.ready k (omega arith) in record { place = omega (arith, r.place); tries = λ x at. r.tries x at }
 
 ready_at : (a from id : ℕ) (t : Task) (ts : List Task) (b : Bool) → is_waiting t.fate ≡ b → HasTry a t → cond b (Some from) (position_from (λ x. is_waiting x.fate) (from + 1) ts) ≡ Some id
-  → (position_from (λ x. is_waiting x.fate) (from + 1) ts ≡ Some id → IsFrom a (from + 1) id ts) → IsFrom a from id (t ∷ ts)
+    → (position_from (λ x. is_waiting x.fate) (from + 1) ts ≡ Some id → IsFrom a (from + 1) id ts) → IsFrom a from id (t ∷ ts)
 ready_at a from id t ts true waits p is more = first_waits a from id t ts p waits (let same : from ≡ id = cc in same)
 ready_at a from id t ts false waits p is more = later_waits a from id t ts (more is)
+
 ready_from : (a from id : ℕ) (ts : List Task) → HaveTries a ts → position_from (λ t. is_waiting t.fate) from ts ≡ Some id → IsFrom a from id ts
 ready_from a from id [] p is = absurd cc
 ready_from a from id (t ∷ ts) p is = ready_at a from id t ts (is_waiting t.fate) refl p.0 is (ready_from a (from + 1) id ts p.1)

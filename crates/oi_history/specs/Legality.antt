@@ -20,7 +20,7 @@ Allows s (Login generation params cmdsn max exp_stat) =
     (generation ≡ s.generation + 1) × (1 ≤ params.max_send) × (has_connection s.phase ≡ false) × (is_ended s.phase ≡ false)
 Allows s (Issue id generation tag cmdsn) =
     (waiting_in s.tasks ≡ Some id) × (is_logged_in s.phase generation ≡ true) × (s.broken ≡ None) × (cmdsn ≡ next_of s.window)
-        × (is_open s.window ≡ true) × (slice_get s.free 0 ≡ Some tag) × (s.ended ≡ [])
+    × (is_open s.window ≡ true) × (slice_get s.free 0 ≡ Some tag) × (s.ended ≡ [])
 Allows s (Reap tag) = (slice_get s.ended 0 ≡ Some tag) × (is_ended s.phase ≡ false)
 Allows s (Terminate cause) = is_ended s.phase ≡ false
 Allows s e = ⊥

@@ -30,7 +30,7 @@ command_pdu params stat c tag cmdsn = record {
     length = c.length;
     cmdsn = record { 0 = cmdsn };
     exp_stat = record { 0 = stat };
-    cdb = c.cdb
+    cdb = c.cdb;
   });
-  payload = take (immediate_of params c) c.written
+  payload = take (immediate_of params c) c.written;
 }

@@ -111,7 +111,7 @@ first_snapshot count p = record {
   free = fresh_tags 0 count;
   busy = [];
   ended = [];
-  tasks = []
+  tasks = [];
 }
 
 -- the PDU of an entry is on the live connection, unbroken so far
@@ -139,5 +139,5 @@ after C e at s = record {
   free = free_after C.cmds_max e s.free;
   busy = allocated_after e s.busy;
   ended = ended_after C.tries at (accepted_at e s) s.busy s.tasks e s.ended;
-  tasks = tasks_after C.tries at (accepted_at e s) s.busy e s.tasks
+  tasks = tasks_after C.tries at (accepted_at e s) s.busy e s.tasks;
 }

@@ -44,7 +44,11 @@ fn own(exp: Serial, max: Serial, stat: Serial) -> Option<Numbers>
 fn not_own(exp: Serial, max: Serial) -> Option<Numbers>
     ensures { result ≡ Some (record { exp = exp; max = max; stat = None }) }
 {
-    Some(Numbers { exp, max, stat: None })
+    Some(Numbers {
+        exp,
+        max,
+        stat: None,
+    })
 }
 
 /// The numbers that a PDU of the target carries.
@@ -73,7 +77,9 @@ fn live_data_rule(task: &Task, h: DataIn, payload: &[u8]) -> Option<Rule>
         Some(Rule::DataNumber)
     } else if h.offset != task.got.count() {
         Some(Rule::DataOffset)
-    } else if payload.len() > task.command.length as usize || h.offset as usize > task.command.length as usize - payload.len() {
+    } else if payload.len() > task.command.length as usize
+        || h.offset as usize > task.command.length as usize - payload.len()
+    {
         Some(Rule::DataRange)
     } else {
         None
@@ -98,7 +104,9 @@ fn r2t_rule(task: Option<&Task>, h: R2t) -> Option<Rule>
         None => Some(Rule::UnknownTag),
         Some(task) if !task.command.writes => Some(Rule::WrongKind),
         Some(_) if h.length == 0 => Some(Rule::R2tRange),
-        Some(task) if h.offset as u64 + h.length as u64 > task.command.length as u64 => Some(Rule::R2tRange),
+        Some(task) if h.offset as u64 + h.length as u64 > task.command.length as u64 => Some(
+            Rule::R2tRange,
+        ),
         Some(_) => None,
     }
 }
@@ -134,7 +142,9 @@ pub fn rule_of(busy: &[Allocated], tasks: &[Task], head: &Header, payload: &[u8]
         Header::ScsiResponse(h) => known_rule(held(busy, tasks, h.tag)),
         Header::R2t(h) => r2t_rule(held(busy, tasks, h.tag), *h),
         Header::NopIn(h) if h.tag.0 == 0xffff_ffff => None,
-        Header::NopIn(_) | Header::TaskResponse(_) | Header::LogoutResponse(_) => Some(Rule::UnknownTag),
+        Header::NopIn(_) | Header::TaskResponse(_) | Header::LogoutResponse(_) => Some(
+            Rule::UnknownTag,
+        ),
         Header::Async(_) => None,
         Header::Reject(_) => reject_rule(busy, tasks, payload),
         _ => Some(Rule::WrongOpcode),

@@ -13,7 +13,16 @@ use oi_pdu::{DataIn, Header, Pdu, ScsiResponse};
 use std::alloc::Global;
 use std::collections::VecDeque;
 
-fn data_in(tasks: &mut Vec<Task>, ended: &mut VecDeque<Tag>, busy: &[Allocated], alloc: Global, allowed: u8, at: u64, h: DataIn, payload: &[u8]) -> Result<(), NoMemory>
+fn data_in(
+    tasks: &mut Vec<Task>,
+    ended: &mut VecDeque<Tag>,
+    busy: &[Allocated],
+    alloc: Global,
+    allowed: u8,
+    at: u64,
+    h: DataIn,
+    payload: &[u8],
+) -> Result<(), NoMemory>
     ensures tasks { OnOk result (tasks.new.items ≡ changed_held h.tag.0 busy.now (data_step allowed at h payload.now) tasks.old.items) }
     ensures ended { OnOk result (ended.new.items
         ≡ ended.old.items ++ ended_by_step h.tag (held h.tag.0 busy.now tasks.old.items) (data_step allowed at h payload.now)) }
@@ -33,7 +42,16 @@ fn data_in(tasks: &mut Vec<Task>, ended: &mut VecDeque<Tag>, busy: &[Allocated],
     Ok(())
 }
 
-fn scsi_response(tasks: &mut Vec<Task>, ended: &mut VecDeque<Tag>, busy: &[Allocated], alloc: Global, allowed: u8, at: u64, h: ScsiResponse, payload: &[u8]) -> Result<(), NoMemory>
+fn scsi_response(
+    tasks: &mut Vec<Task>,
+    ended: &mut VecDeque<Tag>,
+    busy: &[Allocated],
+    alloc: Global,
+    allowed: u8,
+    at: u64,
+    h: ScsiResponse,
+    payload: &[u8],
+) -> Result<(), NoMemory>
     ensures tasks { OnOk result (tasks.new.items ≡ changed_held h.tag.0 busy.now (response_step allowed at h payload.now) tasks.old.items) }
     ensures ended { OnOk result (ended.new.items
         ≡ ended.old.items ++ ended_by_step h.tag (held h.tag.0 busy.now tasks.old.items) (response_step allowed at h payload.now)) }
@@ -54,7 +72,15 @@ fn scsi_response(tasks: &mut Vec<Task>, ended: &mut VecDeque<Tag>, busy: &[Alloc
 }
 
 // The effect of an accepted PDU on the submissions.
-fn effect(tasks: &mut Vec<Task>, ended: &mut VecDeque<Tag>, busy: &[Allocated], alloc: Global, allowed: u8, at: u64, pdu: &Pdu) -> Result<(), NoMemory>
+fn effect(
+    tasks: &mut Vec<Task>,
+    ended: &mut VecDeque<Tag>,
+    busy: &[Allocated],
+    alloc: Global,
+    allowed: u8,
+    at: u64,
+    pdu: &Pdu,
+) -> Result<(), NoMemory>
     ensures tasks { OnOk result (tasks.new.items ≡ tasks_with allowed at busy.now pdu.now.head pdu.now.payload tasks.old.items) }
     ensures ended { OnOk result (ended.new.items ≡ ended.old.items ++ ended_with allowed at busy.now tasks.old.items pdu.now.head pdu.now.payload) }
     ensures tasks_stay { OnErr result (tasks.new.items ≡ tasks.old.items) }
@@ -63,7 +89,9 @@ fn effect(tasks: &mut Vec<Task>, ended: &mut VecDeque<Tag>, busy: &[Allocated], 
     let payload = pdu.payload.as_slice();
     match &pdu.head {
         Header::DataIn(h) => data_in(tasks, ended, busy, alloc, allowed, at, *h, payload),
-        Header::ScsiResponse(h) => scsi_response(tasks, ended, busy, alloc, allowed, at, *h, payload),
+        Header::ScsiResponse(h) => scsi_response(
+            tasks, ended, busy, alloc, allowed, at, *h, payload,
+        ),
         _ => Ok(()),
     }
 }
@@ -107,14 +135,22 @@ impl State {
     fn accept(&mut self, pdu: &Pdu, at: u64) -> Result<(), NoMemory>
         ensures config { self.new.config ≡ self.old.config }
         ensures ok { OnOk result (self.new.now ≡ record self.old.now {
-            window = window_told (numbers_of pdu.now.head) self.old.now.window;
-            stat = stat_told (numbers_of pdu.now.head) self.old.now.stat;
-            ended = self.old.now.ended ++ ended_with self.old.config.tries at self.old.now.busy self.old.now.tasks pdu.now.head pdu.now.payload;
-            tasks = tasks_with self.old.config.tries at self.old.now.busy pdu.now.head pdu.now.payload self.old.now.tasks
+          window = window_told (numbers_of pdu.now.head) self.old.now.window;
+          stat = stat_told (numbers_of pdu.now.head) self.old.now.stat;
+          ended = self.old.now.ended ++ ended_with self.old.config.tries at self.old.now.busy self.old.now.tasks pdu.now.head pdu.now.payload;
+          tasks = tasks_with self.old.config.tries at self.old.now.busy pdu.now.head pdu.now.payload self.old.now.tasks;
         }) }
         ensures err { OnErr result (self.new.now ≡ self.old.now) }
     {
-        effect(&mut self.tasks, &mut self.ended, &self.busy, self.alloc, self.config.tries, at, pdu)?;
+        effect(
+            &mut self.tasks,
+            &mut self.ended,
+            &self.busy,
+            self.alloc,
+            self.config.tries,
+            at,
+            pdu,
+        )?;
         if let Some(numbers) = numbers_of(&pdu.head) {
             self.window.update(numbers.exp, numbers.max);
             if let Some(stat) = numbers.stat {

@@ -163,7 +163,14 @@ fn take_piece(task: &mut Task, payload: &[u8]) -> Result<(), NoMemory>
 }
 
 /// A Data-In for the tag of a submission. Answers whether the submission left the tag.
-pub fn data_to(task: &mut Task, alloc: Global, allowed: u8, at: u64, h: DataIn, payload: &[u8]) -> Result<bool, NoMemory>
+pub fn data_to(
+    task: &mut Task,
+    alloc: Global,
+    allowed: u8,
+    at: u64,
+    h: DataIn,
+    payload: &[u8],
+) -> Result<bool, NoMemory>
     ensures ok { OnOk result (task.new ≡ data_step allowed at h payload.now task.old) }
     ensures ended { IfOk result (λ over. over ≡ (is_live_on h.tag.0 task.old.fate && not (is_live_on h.tag.0 task.new.fate))) }
     ensures err { OnErr result (task.new ≡ task.old) }
@@ -180,7 +187,14 @@ pub fn data_to(task: &mut Task, alloc: Global, allowed: u8, at: u64, h: DataIn, 
 }
 
 /// A SCSI Response for the tag of a submission. Answers whether the submission left the tag.
-pub fn response_to(task: &mut Task, alloc: Global, allowed: u8, at: u64, h: ScsiResponse, payload: &[u8]) -> Result<bool, NoMemory>
+pub fn response_to(
+    task: &mut Task,
+    alloc: Global,
+    allowed: u8,
+    at: u64,
+    h: ScsiResponse,
+    payload: &[u8],
+) -> Result<bool, NoMemory>
     ensures ok { OnOk result (task.new ≡ response_step allowed at h payload.now task.old) }
     ensures ended { IfOk result (λ over. over ≡ (is_live_on h.tag.0 task.old.fate && not (is_live_on h.tag.0 task.new.fate))) }
     ensures err { OnErr result (task.new ≡ task.old) }

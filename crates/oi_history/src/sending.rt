@@ -21,13 +21,23 @@ fn unsolicited_of(params: Option<Params>, c: &Command) -> u32
     ensures { result ≡ unsolicited_of params c.now }
 {
     match params {
-        Some(p) if !p.initial_r2t && c.writes => c.length.min(p.first_burst).saturating_sub(immediate_of(params, c)),
+        Some(p) if !p.initial_r2t && c.writes => c
+            .length
+            .min(p.first_burst)
+            .saturating_sub(immediate_of(params, c)),
         _ => 0,
     }
 }
 
 /// The SCSI Command PDU of a command, with its immediate data.
-pub fn command_pdu(alloc: Global, params: Option<Params>, stat: u32, c: &Command, tag: Tag, cmdsn: u32) -> Result<Pdu, NoMemory>
+pub fn command_pdu(
+    alloc: Global,
+    params: Option<Params>,
+    stat: u32,
+    c: &Command,
+    tag: Tag,
+    cmdsn: u32,
+) -> Result<Pdu, NoMemory>
     ensures { IfOk result (λ p. p ≡ command_pdu params stat c.now tag cmdsn) }
 {
     let immediate = immediate_of(params, c) as usize;

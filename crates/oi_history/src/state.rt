@@ -5,7 +5,9 @@ use crate::fate::Delivered;
 use crate::phase::{End, Phase};
 use crate::rule::Rule;
 use crate::sending::command_pdu;
-use crate::tables::{cut_all, due, first_waiting, fresh_tags, issue_at, pending, release, tell_all};
+use crate::tables::{
+    cut_all, due, first_waiting, fresh_tags, issue_at, pending, release, tell_all,
+};
 use crate::task::{Received, Task};
 use oi_base::{NoMemory, Params, Serial, Tag, age_of};
 use oi_pdu::Pdu;
@@ -42,21 +44,21 @@ impl Model for State {
     ghost Value = { StateView };
 
     ghost view = { λ s. record {
-        config = s.config;
-        now = record {
-            phase = s.phase;
-            generation = s.generation;
-            params = s.params;
-            window = s.window;
-            stat = s.stat;
-            broken = s.broken;
-            free = s.free.items;
-            busy = s.busy.items;
-            ended = s.ended.items;
-            tasks = s.tasks.items
-        };
-        releases = deque_capacity s.free - deque_len s.free;
-        takes = vec_capacity s.busy - vec_len s.busy
+      config = s.config;
+      now = record {
+        phase = s.phase;
+        generation = s.generation;
+        params = s.params;
+        window = s.window;
+        stat = s.stat;
+        broken = s.broken;
+        free = s.free.items;
+        busy = s.busy.items;
+        ended = s.ended.items;
+        tasks = s.tasks.items;
+      };
+      releases = deque_capacity s.free - deque_len s.free;
+      takes = vec_capacity s.busy - vec_len s.busy;
     } };
 
     ghost invariant = { λ s. IsValidConfig s.config };
@@ -108,7 +110,14 @@ impl State {
     }
 
     /// A login reached the full feature phase.
-    pub fn log_in(&mut self, generation: u64, params: Params, cmdsn: u32, max: u32, exp_stat: u32) -> Result<(), NoMemory>
+    pub fn log_in(
+        &mut self,
+        generation: u64,
+        params: Params,
+        cmdsn: u32,
+        max: u32,
+        exp_stat: u32,
+    ) -> Result<(), NoMemory>
         requires { 1 ≤ generation }
         ensures ok { OnOk result ((at : ℕ) → Steps self.old self.new (Login generation params cmdsn max exp_stat) at) }
         ensures err { OnErr result (self.new ≡ self.old) }
@@ -199,6 +208,13 @@ impl State {
         self.generation
     }
 
+    /// The session's number.
+    pub fn sid(&self) -> u32
+        ensures { result ≡ self.now.config.sid }
+    {
+        self.config.sid
+    }
+
     pub fn window(&self) -> Window
         ensures { result ≡ self.now.now.window }
     {
@@ -238,7 +254,14 @@ impl State {
         ensures { IfOk result (λ p. IsCommandOf self.now.now id tag p) }
     {
         let task = &self.tasks[id];
-        command_pdu(self.alloc, self.params, self.stat, &task.command, tag, self.window.next().0)
+        command_pdu(
+            self.alloc,
+            self.params,
+            self.stat,
+            &task.command,
+            tag,
+            self.window.next().0,
+        )
     }
 
     /// The tag that has been free longest.

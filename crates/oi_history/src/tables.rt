@@ -67,7 +67,15 @@ pub fn issue_at(tasks: &mut Vec<Task>, id: usize, generation: u64, tag: Tag)
 }
 
 /// A Data-In for the submission with this id. Answers whether its tag ended.
-pub fn data_at(tasks: &mut Vec<Task>, id: usize, alloc: Global, allowed: u8, at: u64, h: DataIn, payload: &[u8]) -> Result<bool, NoMemory>
+pub fn data_at(
+    tasks: &mut Vec<Task>,
+    id: usize,
+    alloc: Global,
+    allowed: u8,
+    at: u64,
+    h: DataIn,
+    payload: &[u8],
+) -> Result<bool, NoMemory>
     requires { id < vec_len tasks.old }
     ensures ok { OnOk result (tasks.new.items ≡ changed id (data_step allowed at h payload.now) tasks.old.items) }
     ensures ended { IfOk result (λ over. (if over then h.tag ∷ [] else [])
@@ -79,7 +87,15 @@ pub fn data_at(tasks: &mut Vec<Task>, id: usize, alloc: Global, allowed: u8, at:
 }
 
 /// A SCSI Response for the submission with this id. Answers whether its tag ended.
-pub fn response_at(tasks: &mut Vec<Task>, id: usize, alloc: Global, allowed: u8, at: u64, h: ScsiResponse, payload: &[u8]) -> Result<bool, NoMemory>
+pub fn response_at(
+    tasks: &mut Vec<Task>,
+    id: usize,
+    alloc: Global,
+    allowed: u8,
+    at: u64,
+    h: ScsiResponse,
+    payload: &[u8],
+) -> Result<bool, NoMemory>
     requires { id < vec_len tasks.old }
     ensures ok { OnOk result (tasks.new.items ≡ changed id (response_step allowed at h payload.now) tasks.old.items) }
     ensures ended { IfOk result (λ over. (if over then h.tag ∷ [] else [])

@@ -41,13 +41,13 @@ found low high n text small from to is =
     rw (value, le_test low n from, le_test n high to, same) refl
 
 none_found : (low high v : ℕ) (text : List ℕ) (p q r : Bool) → nat_le low v ≡ p → nat_le v high ≡ q → is_text text (decimal v) ≡ r → ((n : ℕ) → low ≤ n → n ≤ high → text ≡ decimal n → ⊥)
-  → None ≡ (if p && q && r then Some v else None)
+    → None ≡ (if p && q && r then Some v else None)
 none_found low high v text true true true p q r never = absurd (never v (le_from low v p) (le_from v high q) (text_is_same text (decimal v) r))
 none_found low high v text true true false p q r never = refl
 none_found low high v text true false r' p q r never = refl
 none_found low high v text false q' r' p q r never = refl
 
 pub number_is : (low high : ℕ) (text : List ℕ) (o : Option ℕ) → high < 2 ^ 64 → MatchOption o ((n : ℕ) → low ≤ n → n ≤ high → text ≡ decimal n → ⊥) (λ n. (low ≤ n) × (n ≤ high) × (text ≡ decimal n))
-  → o ≡ number_in low high text
+    → o ≡ number_in low high text
 number_is low high text (Some n) small h = found low high n text small h.0 h.1 h.2
 number_is low high text None small h = none_found low high (digits_value 10 text) text _ _ _ refl refl refl h

@@ -30,7 +30,7 @@ standard_params = record {
   first_burst = 65536;
   outstanding = 1;
   time2wait = 2;
-  time2retain = 20
+  time2retain = 20;
 }
 
 abbrev pub login_of : Option ℕ → Option ℕ → Option ℕ → Option DriveLine

@@ -13,11 +13,18 @@ pub enum DriveLine {
         exp_stat: u32,
         params: Params,
     },
-    Submit { request: Request },
+    Submit {
+        request: Request,
+    },
     /// So many PDUs at most are sent.
-    Send { count: u32 },
+    Send {
+        count: u32,
+    },
     /// Bytes of the target on the connection with this generation.
-    Recv { generation: u64, bytes: Blob },
+    Recv {
+        generation: u64,
+        bytes: Blob,
+    },
     End,
 }
 

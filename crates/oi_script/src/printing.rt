@@ -43,7 +43,11 @@ fn put_residual(out: &mut Vec<u8>, residual: Residual) -> Result<(), NoMemory>
 fn put_sense(alloc: Global, out: &mut Vec<u8>, sense: &[u8]) -> Result<(), NoMemory>
     ensures { OnOk result (out.new.items ≡ out.old.items ++ sense_text sense.now) }
 {
-    if sense.is_empty() { put(out, b"-") } else { put_hex(alloc, out, sense) }
+    if sense.is_empty() {
+        put(out, b"-")
+    } else {
+        put_hex(alloc, out, sense)
+    }
 }
 
 fn put_got(alloc: Global, out: &mut Vec<u8>, got: &[u8]) -> Result<(), NoMemory>

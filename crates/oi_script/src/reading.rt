@@ -70,15 +70,17 @@ fn read(a: Option<u64>, b: Option<u64>, c: Option<u64>) -> Option<DriveLine>
     ensures valid { IfSome result (λ l. IsValidLine l) }
 {
     match (a, b, c) {
-        (Some(lun), Some(lba), Some(blocks)) if lba <= (1 << 63) - blocks => Some(DriveLine::Submit {
-            request: Request {
-                lun: lun as u8,
-                kind: Kind::Read {
-                    lba,
-                    blocks: blocks as u16,
+        (Some(lun), Some(lba), Some(blocks)) if lba <= (1 << 63) - blocks => Some(
+            DriveLine::Submit {
+                request: Request {
+                    lun: lun as u8,
+                    kind: Kind::Read {
+                        lba,
+                        blocks: blocks as u16,
+                    },
                 },
             },
-        }),
+        ),
         _ => None,
     }
 }
@@ -89,7 +91,9 @@ fn send(a: Option<u64>) -> Option<DriveLine>
     ensures valid { IfSome result (λ l. IsValidLine l) }
 {
     match a {
-        Some(count) => Some(DriveLine::Send { count: count as u32 }),
+        Some(count) => Some(DriveLine::Send {
+            count: count as u32,
+        }),
         None => None,
     }
 }
@@ -124,7 +128,11 @@ fn one_word(w: &[u8]) -> Option<DriveLine>
     ensures line { result ≡ line_of_words (w.now ∷ []) }
     ensures valid { IfSome result (λ l. IsValidLine l) }
 {
-    if is_text(w, b"end") { Some(DriveLine::End) } else { None }
+    if is_text(w, b"end") {
+        Some(DriveLine::End)
+    } else {
+        None
+    }
 }
 
 fn two_words(w: &[u8], a: &[u8]) -> Option<DriveLine>
@@ -144,7 +152,11 @@ fn three_words(alloc: Global, w: &[u8], a: &[u8], b: &[u8]) -> Result<Option<Dri
     ensures line { IfOk result (λ o. o ≡ line_of_words (w.now ∷ a.now ∷ b.now ∷ [])) }
     ensures valid { IfOk result (λ o. IfSome o (λ l. IsValidLine l)) }
 {
-    if is_text(w, b"recv") { recv(alloc, a, b) } else { Ok(None) }
+    if is_text(w, b"recv") {
+        recv(alloc, a, b)
+    } else {
+        Ok(None)
+    }
 }
 
 fn four_words(w: &[u8], a: &[u8], b: &[u8], c: &[u8]) -> Option<DriveLine>
@@ -154,7 +166,11 @@ fn four_words(w: &[u8], a: &[u8], b: &[u8], c: &[u8]) -> Option<DriveLine>
     if is_text(w, b"login") {
         login(number(a, 0, MOST), number(b, 0, MOST), number(c, 0, MOST))
     } else if is_text(w, b"read") {
-        read(number(a, 0, 255), number(b, 0, u64::MAX), number(c, 1, 2048))
+        read(
+            number(a, 0, 255),
+            number(b, 0, u64::MAX),
+            number(c, 1, 2048),
+        )
     } else {
         None
     }

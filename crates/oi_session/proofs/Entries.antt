@@ -33,7 +33,6 @@ kept_back_most : (b : Bool) → kept_back b ≤ 1
 kept_back_most true = omega arith
 kept_back_most false = omega arith
 
-
 newest : (xs : List Numbered) (x : Numbered) → reverse (xs ++ x ∷ []) ≡ x ∷ reverse xs
 newest xs x = reverse-append xs (x ∷ [])
 
@@ -55,9 +54,9 @@ enters old new e number k is steps items allowed room =
         now = now ∙ (ap (λ (z : List Numbered). snapshot C z) (sym list) ∙ ap (λ (z : SessionConfig). snapshot z (reverse new.events.items)) (sym steps.config));
         legal = subst (λ (z : SessionConfig). IsLegal z (reverse new.events.items)) (sym steps.config) (subst (λ (z : List Numbered). IsLegal C z) (sym list) legal);
         numbered = subst (λ (z : List Numbered). IsNumbered z) (sym list) (count, k.numbered);
-        room = room
+        room = room;
       };
-      session = rw (steps.config, list, count) refl
+      session = rw (steps.config, list, count) refl;
     }
 
 pub room_after : (b : Bool) (n m cap cap' : ℕ) → n + 2 ≤ cap → m ≡ n + 1 → cap' ≡ cap → m + kept_back b ≤ cap'

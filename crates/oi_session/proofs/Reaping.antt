@@ -67,7 +67,7 @@ pub record Parts (broken : Option Rule) (w : Window) (waiting : Option ℕ) (fre
   pub number : cmdsn ≡ next_of w
 
 parts_by : (generation : ℕ) (w : Window) (waiting : Option ℕ) (free : Option Tag) (id : ℕ) (tag : Tag) (cmdsn : ℕ) (b : Bool) → is_open w ≡ b → (if b then issue_by generation w waiting free else None) ≡ Some (Issue id generation tag cmdsn)
-  → Parts None w waiting free id tag cmdsn
+    → Parts None w waiting free id tag cmdsn
 parts_by g w waiting free id tag cmdsn false opened is = absurd cc
 parts_by g w None free id tag cmdsn true opened is = absurd cc
 parts_by g w (Some i) None id tag cmdsn true opened is = absurd cc
@@ -79,7 +79,7 @@ parts None g w waiting free id tag cmdsn is = parts_by g w waiting free id tag c
 
 -- a planned command is allowed once the ended tags are released
 pub planned_allowed : (generation : ℕ) (s : Session) (id : ℕ) (tag : Tag) (cmdsn : ℕ) → is_logged_in (now_of s).phase generation ≡ true → planned generation (now_of s) ≡ Some (Issue id generation tag cmdsn)
-  → Allows (now_of (reaped s)) (Issue id generation tag cmdsn)
+    → Allows (now_of (reaped s)) (Issue id generation tag cmdsn)
 planned_allowed g s id tag cmdsn live is =
     let r = reaps s in
     let p = parts (now_of (reaped s)).broken g (now_of (reaped s)).window (waiting_in (now_of (reaped s)).tasks) (slice_get (now_of (reaped s)).free 0) id tag cmdsn (planned_is_next g s ∙ is) in
@@ -100,8 +100,8 @@ waiting_there ts id is = get_there ts id (there_by ts (position_or_len (λ t. is
 
 -- what goes out is what was planned
 pub sends_planned : (generation : ℕ) (s : Session) (id : ℕ) (tag : Tag) (cmdsn : ℕ) (bytes : List ℕ) → planned generation (now_of s) ≡ Some (Issue id generation tag cmdsn)
-  → ((t : Task) → slice_get (now_of s).tasks id ≡ Some t → bytes ≡ encoding (command_pdu (now_of s).params (now_of s).stat t.command tag cmdsn))
-  → bytes ≡ sent_bytes (now_of (reaped s)) (Issue id generation tag cmdsn)
+    → ((t : Task) → slice_get (now_of s).tasks id ≡ Some t → bytes ≡ encoding (command_pdu (now_of s).params (now_of s).stat t.command tag cmdsn))
+    → bytes ≡ sent_bytes (now_of (reaped s)) (Issue id generation tag cmdsn)
 sends_planned g s id tag cmdsn bytes is plan =
     let r = reaps s in
     let p = parts (now_of s).broken g (now_of s).window (waiting_in (now_of s).tasks) (slice_get ((now_of s).free ++ (now_of s).ended) 0) id tag cmdsn is in
@@ -124,8 +124,8 @@ none_left [] none = refl
 none_left (x ∷ tags) none = absurd cc
 
 pub reap_step : (first old new : Kept) (tag : Tag) → IsReaping first old → slice_get old.state.now.ended 0 ≡ Some tag → IsKept new → session_of new ≡ entered (session_of old) (Reap tag)
-  → new.state.releases + 1 ≡ old.state.releases → old.state.takes ≤ new.state.takes → new.state.now.ended ≡ drop 1 old.state.now.ended → vec_len new.events ≡ vec_len old.events + 1
-  → vec_capacity new.events ≡ vec_capacity old.events → IsReaping first new
+    → new.state.releases + 1 ≡ old.state.releases → old.state.takes ≤ new.state.takes → new.state.now.ended ≡ drop 1 old.state.now.ended → vec_len new.events ≡ vec_len old.events + 1
+    → vec_capacity new.events ≡ vec_capacity old.events → IsReaping first new
 reap_step first old new tag r head kept session releases takes ended len capacity =
     let less : length new.state.now.ended + 1 ≡ length old.state.now.ended = ap (λ (z : List Tag). length z + 1) ended ∙ shorter old.state.now.ended tag head in
     let there : slice_get (now_of (session_of old)).ended 0 ≡ Some tag = subst (λ (s : Snapshot). slice_get s.ended 0 ≡ Some tag) r.kept.now head in
@@ -133,7 +133,7 @@ reap_step first old new tag r head kept session releases takes ended len capacit
       kept = kept;
       room = record { events = omega (arith, r.room.events); releases = omega (arith, r.room.releases); takes = omega (arith, r.room.takes) };
       going = ap (λ (s : Session). is_ended (now_of s).phase) session ∙ r.going;
-      rest = ap reaped session ∙ (reaped_on (session_of old) tag there ∙ r.rest)
+      rest = ap reaped session ∙ (reaped_on (session_of old) tag there ∙ r.rest);
     }
 
 pub reap_end : (first old : Kept) → IsReaping first old → slice_get old.state.now.ended 0 ≡ None → session_of old ≡ reaped (session_of first)

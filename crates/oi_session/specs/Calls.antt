@@ -38,7 +38,7 @@ use Rattle.oi_session.specs.declared.answers.Transmit.TheVariants.{NotLoggedIn, 
 abbrev pub Submits : Session → Request → Result Receipt SubmitRefused → Session → Type 0
 Submits old request (Ok receipt) new =
     (is_ended (now_of old).phase ≡ false) × (pending_of (now_of old) < most_pending) × (receipt.id ≡ length (now_of old).tasks) × (receipt.number ≡ length old.history)
-        × (new ≡ entered old (Submit receipt.id request))
+    × (new ≡ entered old (Submit receipt.id request))
 Submits old request (Err (SubmitEnded cause)) new = ((now_of old).phase ≡ Ended cause) × (new ≡ old)
 Submits old request (Err (Full waiting)) new =
     (is_ended (now_of old).phase ≡ false) × (most_pending ≤ pending_of (now_of old)) × (waiting ≡ told (pending_of (now_of old))) × (new ≡ old)
@@ -48,7 +48,7 @@ Submits old request (Err SubmitMemory) new = new ≡ old
 abbrev pub LogsIn : Session → LoginDone → Result ℕ LoginRefused → Session → Type 0
 LogsIn old done (Ok generation) new =
     (has_connection (now_of old).phase ≡ false) × (is_ended (now_of old).phase ≡ false) × (generation ≡ (now_of old).generation + 1)
-        × (new ≡ entered old (Login generation done.params done.cmdsn done.max done.exp_stat))
+    × (new ≡ entered old (Login generation done.params done.cmdsn done.max done.exp_stat))
 LogsIn old done (Err (LoginEnded cause)) new = ((now_of old).phase ≡ Ended cause) × (new ≡ old)
 LogsIn old done (Err (LoginTwice current)) new = ((now_of old).phase ≡ LoggedIn current) × (new ≡ old)
 LogsIn old done (Err (LoginSpent steps kept)) new = ⊥
@@ -64,7 +64,7 @@ Transmits old generation before (Ok Idle) new after =
     (is_logged_in (now_of old).phase generation ≡ true) × (next_to_send generation (now_of (reaped old)) ≡ None) × (new ≡ reaped old) × (after ≡ before)
 Transmits old generation before (Ok (Sent e)) new after =
     (is_logged_in (now_of old).phase generation ≡ true) × (next_to_send generation (now_of (reaped old)) ≡ Some e) × (new ≡ entered (reaped old) e)
-        × (after ≡ before ++ sent_bytes (now_of (reaped old)) e)
+    × (after ≡ before ++ sent_bytes (now_of (reaped old)) e)
 Transmits old generation before (Err (StepSpent steps kept)) new after = ⊥
 Transmits old generation before (Err StepMemory) new after = (new ≡ old) × (after ≡ before)
 

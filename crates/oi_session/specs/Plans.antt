@@ -18,4 +18,4 @@ abbrev pub IsPlan : Snapshot → ℕ → Option Planned → Type 0
 IsPlan s generation None = planned generation s ≡ None
 IsPlan s generation (Some p) =
     (planned generation s ≡ Some (Issue p.id generation p.tag p.cmdsn))
-        × ((t : Task) → slice_get s.tasks p.id ≡ Some t → p.bytes.items ≡ encoding (command_pdu s.params s.stat t.command p.tag p.cmdsn))
+    × ((t : Task) → slice_get s.tasks p.id ≡ Some t → p.bytes.items ≡ encoding (command_pdu s.params s.stat t.command p.tag p.cmdsn))

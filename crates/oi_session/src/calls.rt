@@ -6,8 +6,13 @@ ghost use Rattle.oi_history.specs.Phases.{is_logged_in};
 ghost use Rattle.oi_session.specs.Cores.{IsKept, session_of};
 ghost use Rattle.oi_session.specs.Sessions.{next_to_send, now_of, pending_of, reaped, reaped_by};
 
-use crate::answers::{AlreadyEnded, LoginRefused, Receipt, Received, StepRefused, SubmitRefused, Transmit};
-use crate::kept::{Kept, enter_deliver, enter_issue, enter_login, enter_pdu, enter_reap, enter_submit, enter_terminate, make_room};
+use crate::answers::{
+    AlreadyEnded, LoginRefused, Receipt, Received, StepRefused, SubmitRefused, Transmit,
+};
+use crate::kept::{
+    Kept, enter_deliver, enter_issue, enter_login, enter_pdu, enter_reap, enter_submit,
+    enter_terminate, make_room,
+};
 use oi_base::LoginDone;
 use oi_history::{Delivered, End, Phase, Rule, State};
 use oi_pdu::{Header, Pdu};
@@ -21,6 +26,19 @@ pub fn phase(kept: &Kept) -> Phase
     ensures { result ≡ (now_of (session_of kept.now)).phase }
 {
     kept.state.phase()
+}
+
+pub fn sid(kept: &Kept) -> u32
+    ensures { result ≡ kept.now.state.config.sid }
+{
+    kept.state.sid()
+}
+
+pub fn broken(kept: &Kept) -> Option<Rule>
+    requires { IsKept kept.now }
+    ensures { result ≡ (now_of (session_of kept.now)).broken }
+{
+    kept.state.broken()
 }
 
 pub fn window(kept: &Kept) -> Window
@@ -66,7 +84,9 @@ pub fn logged_in(kept: &mut Kept, done: LoginDone) -> Result<u64, LoginRefused>
 {
     match kept.state.phase() {
         Phase::Ended { cause } => return Err(LoginRefused::Ended { cause }),
-        Phase::LoggedIn { generation } => return Err(LoginRefused::LoggedIn { current: generation }),
+        Phase::LoggedIn { generation } => return Err(LoginRefused::LoggedIn {
+            current: generation,
+        }),
         _ => {}
     }
     let Some(generation) = kept.state.generation().checked_add(1) else {

@@ -28,7 +28,11 @@ pub fn new(alloc: Global, config: SessionConfig) -> Result<Kept, NoMemory>
 {
     let state = State::new(alloc, config)?;
     let events = Vec::with_capacity(alloc, 2)?;
-    Ok(Kept { alloc, state, events })
+    Ok(Kept {
+        alloc,
+        state,
+        events,
+    })
 }
 
 /// Makes room for so many entries, and for the end behind them.

@@ -8,6 +8,8 @@ mod run;
 mod sending;
 mod solo;
 
+pub use answers::{
+    AlreadyEnded, LoginRefused, Receipt, Received, StepRefused, SubmitRefused, Transmit,
+};
 pub use run::Run;
 pub use solo::Solo;
-pub use answers::{AlreadyEnded, LoginRefused, Receipt, Received, StepRefused, SubmitRefused, Transmit};

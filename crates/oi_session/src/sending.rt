@@ -83,14 +83,22 @@ fn reap_all(kept: &mut Kept)
 }
 
 /// Releases all tags that have ended and sends the next PDU.
-pub fn transmit_next(kept: &mut Kept, generation: u64, out: &mut Vec<u8>) -> Result<Transmit, StepRefused>
+pub fn transmit_next(
+    kept: &mut Kept,
+    generation: u64,
+    out: &mut Vec<u8>,
+) -> Result<Transmit, StepRefused>
     requires { IsKept kept.old }
     ensures kept { IsKept kept.new }
     ensures call { Transmits (session_of kept.old) generation out.old.items result (session_of kept.new) out.new.items }
 {
     match kept.state.phase() {
-        Phase::LoggedIn { generation: current } if current == generation => transmit(kept, generation, out),
-        Phase::LoggedIn { generation: current } => Ok(Transmit::Changed { current }),
+        Phase::LoggedIn {
+            generation: current,
+        } if current == generation => transmit(kept, generation, out),
+        Phase::LoggedIn {
+            generation: current,
+        } => Ok(Transmit::Changed { current }),
         phase => Ok(Transmit::NotLoggedIn { phase }),
     }
 }

@@ -1,10 +1,11 @@
-use crate::answers::{AlreadyEnded, LoginRefused, Receipt, Received, StepRefused, SubmitRefused, Transmit};
-use crate::calls;
+use crate::answers::{
+    AlreadyEnded, LoginRefused, Receipt, Received, StepRefused, SubmitRefused, Transmit,
+};
 use crate::kept::{self, Kept};
 use crate::run::Run;
-use crate::sending;
+use crate::{calls, sending};
 use oi_base::{LoginDone, NoMemory};
-use oi_history::{Delivered, End, Phase, SessionConfig};
+use oi_history::{Delivered, End, Phase, Rule, SessionConfig};
 use oi_pdu::Pdu;
 use oi_scsi::Request;
 use oi_window::Window;
@@ -64,7 +65,11 @@ impl Solo {
     }
 
     /// Releases all tags that have ended and sends the next PDU, whose bytes are appended.
-    pub fn transmit_next(&mut self, generation: u64, out: &mut Vec<u8>) -> Result<Transmit, StepRefused>
+    pub fn transmit_next(
+        &mut self,
+        generation: u64,
+        out: &mut Vec<u8>,
+    ) -> Result<Transmit, StepRefused>
         ensures { Transmits self.old generation out.old.items result self.new out.new.items }
     {
         sending::transmit_next(&mut self.kept, generation, out)
@@ -96,6 +101,20 @@ impl Solo {
         ensures legal { IsLegal self.now.config self.now.history }
     {
         calls::phase(&self.kept)
+    }
+
+    /// The session's number.
+    pub fn sid(&self) -> u32
+        ensures { result ≡ self.now.config.sid }
+    {
+        calls::sid(&self.kept)
+    }
+
+    /// The rule by which the target broke the connection.
+    pub fn broken(&self) -> Option<Rule>
+        ensures { result ≡ (now_of self.now).broken }
+    {
+        calls::broken(&self.kept)
     }
 
     pub fn window(&self) -> Window

@@ -10,4 +10,4 @@ returns-then-id-len-clause-tasks c =
 pub returns-then-id-len-clause-ended : goal.returns-then-id-len-clause-ended
 returns-then-id-len-clause-ended c =
     nothing_ends c.args.h.tag c.in-Some.id c.args.busy.now (response_step c.args.allowed c.args.at c.args.h c.args.payload.now) c.args.tasks.now.items c.args.ended.now.items
-        c.reserve.new.self.items (sym c.in-Some.ensures) (omega arith) c.reserve.ensures.items
+    c.reserve.new.self.items (sym c.in-Some.ensures) (omega arith) c.reserve.ensures.items

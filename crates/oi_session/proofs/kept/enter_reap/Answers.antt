@@ -8,12 +8,12 @@ use Rattle.oi_session.proofs.kept.enter_reap.Goals as goal
 pub returns-clause-kept : goal.returns-clause-kept
 returns-clause-kept c =
     (enters c.args.kept.now (record { alloc = c.args.kept.now.alloc; state = c.reap.new.self; events = c.record.new.events }) (Reap c.args.tag) (vec_len c.args.kept.now.events) c.requires.kept refl (c.reap.ensures.now (vec_len c.args.kept.now.events)) c.record.ensures.items c.requires.allowed
-        (room_after _ _ _ _ _ c.requires.room c.record.ensures.len c.record.ensures.capacity)).kept
+    (room_after _ _ _ _ _ c.requires.room c.record.ensures.len c.record.ensures.capacity)).kept
 
 pub returns-clause-session : goal.returns-clause-session
 returns-clause-session c =
     (enters c.args.kept.now (record { alloc = c.args.kept.now.alloc; state = c.reap.new.self; events = c.record.new.events }) (Reap c.args.tag) (vec_len c.args.kept.now.events) c.requires.kept refl (c.reap.ensures.now (vec_len c.args.kept.now.events)) c.record.ensures.items c.requires.allowed
-        (room_after _ _ _ _ _ c.requires.room c.record.ensures.len c.record.ensures.capacity)).session
+    (room_after _ _ _ _ _ c.requires.room c.record.ensures.len c.record.ensures.capacity)).session
 
 pub returns-clause-ended : goal.returns-clause-ended
 returns-clause-ended c = ap (λ (s : Snapshot). s.ended) (c.reap.ensures.now (vec_len c.args.kept.now.events)).now

@@ -9,7 +9,7 @@ loop-tag-smaller c =
 pub loop-tag-preserved : goal.loop-tag-preserved
 loop-tag-preserved c =
     reap_step c.args.kept.now c.loop-tag.kept c.enter_reap.new.kept c.in-Some.tag c.loop-tag.invariant (sym c.in-Some.ensures) c.enter_reap.ensures.kept c.enter_reap.ensures.session
-        c.enter_reap.ensures.releases c.enter_reap.ensures.takes c.enter_reap.ensures.ended c.enter_reap.ensures.len c.enter_reap.ensures.capacity
+    c.enter_reap.ensures.releases c.enter_reap.ensures.takes c.enter_reap.ensures.ended c.enter_reap.ensures.len c.enter_reap.ensures.capacity
 
 pub returns-clause-session : goal.returns-clause-session
 returns-clause-session c = reap_end c.args.kept.now c.loop-tag.kept c.loop-tag.invariant (sym c.in_default.ensures)

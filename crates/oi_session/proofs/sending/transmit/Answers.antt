@@ -14,8 +14,8 @@ pub send-requires-clause-allowed : goal.send-requires-clause-allowed
 send-requires-clause-allowed c =
     let plan : IsPlan (now_of (session_of c.args.kept.now)) c.args.generation (Some c.in-Some.p) = subst (λ (o : Option Planned). IsPlan (now_of (session_of c.args.kept.now)) c.args.generation o) c.in-Some.is c.in_ok-planned.ensures in
     subst (λ (s : Session). Allows (now_of s) (Issue c.in-Some.p.id c.args.generation c.in-Some.p.tag c.in-Some.p.cmdsn))
-        (sym (c.reap_all-in-Some.ensures.session ∙ ap reaped c.make_all_room-in-Some.ensures.same))
-        (planned_allowed c.args.generation (session_of c.args.kept.now) c.in-Some.p.id c.in-Some.p.tag c.in-Some.p.cmdsn c.requires.live plan.0)
+    (sym (c.reap_all-in-Some.ensures.session ∙ ap reaped c.make_all_room-in-Some.ensures.same))
+    (planned_allowed c.args.generation (session_of c.args.kept.now) c.in-Some.p.id c.in-Some.p.tag c.in-Some.p.cmdsn c.requires.live plan.0)
 
 pub returns-in_ok-make_all_room-in-None-clause-call : goal.returns-in_ok-make_all_room-in-None-clause-call
 returns-in_ok-make_all_room-in-None-clause-call c =
@@ -29,6 +29,9 @@ returns-in_ok-make_all_room-in-Some-clause-call c =
     let p = c.in-Some.p in
     let plan : IsPlan (now_of s) g (Some p) = subst (λ (o : Option Planned). IsPlan (now_of s) g o) c.in-Some.is c.in_ok-planned.ensures in
     let session : session_of c.reap_all-in-Some.new.kept ≡ reaped s = c.reap_all-in-Some.ensures.session ∙ ap reaped c.make_all_room-in-Some.ensures.same in
-    subst (λ (r : Transmit). Transmits s g c.args.out.now.items (Ok r) (session_of c.send.new.kept) c.send.new.out.items) (sym c.send.ensures.answer)
-        (c.requires.live, planned_is_next g s ∙ plan.0, c.send.ensures.session ∙ ap (λ (z : Session). entered z (Issue p.id g p.tag p.cmdsn)) session,
-            c.send.ensures.bytes ∙ (ap (λ (z : List ℕ). z ++ p.bytes.items) c.reserve.ensures.items ∙ ap (λ (z : List ℕ). c.args.out.now.items ++ z) (sends_planned g s p.id p.tag p.cmdsn p.bytes.items plan.0 plan.1)))
+    subst (λ (r : Transmit). Transmits s g c.args.out.now.items (Ok r) (session_of c.send.new.kept) c.send.new.out.items) (sym c.send.ensures.answer) (
+      c.requires.live,
+      planned_is_next g s ∙ plan.0,
+      c.send.ensures.session ∙ ap (λ (z : Session). entered z (Issue p.id g p.tag p.cmdsn)) session,
+      c.send.ensures.bytes ∙ (ap (λ (z : List ℕ). z ++ p.bytes.items) c.reserve.ensures.items ∙ ap (λ (z : List ℕ). c.args.out.now.items ++ z) (sends_planned g s p.id p.tag p.cmdsn p.bytes.items plan.0 plan.1)),
+    )

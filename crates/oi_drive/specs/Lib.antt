@@ -1,0 +1,5 @@
+pub mod Acts
+pub mod Pdus
+pub mod Runs
+pub mod Worlds
+pub mod Writes

@@ -1,0 +1,159 @@
+ghost use Rattle.std.specs.Prelude.{◌≡◌, ◌≤◌, ◌++◌, OnOk, true};
+ghost use Rattle.oi_drive.specs.Acts.{Acts, SendsOne};
+ghost use Rattle.oi_history.specs.Phases.{is_logged_in};
+ghost use Rattle.oi_drive.specs.Runs.{seen};
+ghost use Rattle.oi_drive.specs.Worlds.{acted, acted_text, delivered, due_of_session, fits, line_by, line_by_text, line_step, line_text, outcome_lines, outcomes, sends, sends_text};
+ghost use Rattle.oi_script.specs.Lines.{IsValidLine};
+ghost use Rattle.oi_script.specs.declared.line.DriveLine.TheVariants.{Login as LoginLine, Recv, Send, Submit};
+ghost use Rattle.oi_scsi.specs.Requests.{IsValid};
+ghost use Rattle.oi_session.specs.Sessions.{entered, next_to_send, now_of, reaped, sent_bytes};
+
+use crate::pdus::whole_pdu;
+use crate::runner::{Runner, Stop};
+use oi_base::{LoginDone, NoMemory};
+use oi_history::{Delivered, Phase};
+use oi_script::{DriveLine, LineFault, idle_line, line_of, login_line, read_drive, tx_line};
+use oi_scsi::Request;
+use oi_session::{LoginRefused, Received, Solo, SubmitRefused, Transmit};
+use std::alloc::Global;
+
+fn put(out: &mut Vec<u8>, text: &[u8]) -> Result<(), NoMemory>
+    ensures { OnOk result (out.new.items ≡ out.old.items ++ text.now) }
+{
+    out.extend_from_slice(text)?;
+    Ok(())
+}
+
+// A login line. Answers whether it can stand here.
+fn login(solo: &mut Solo, alloc: Global, done: LoginDone, out: &mut Vec<u8>) -> Result<bool, NoMemory>
+    requires { 1 ≤ done.params.max_send }
+    ensures { Acts (LoginLine done.cmdsn done.max done.exp_stat done.params) solo.old out.old.items result solo.new out.new.items }
+{
+    match solo.logged_in(done) {
+        Ok(generation) => {
+            put(out, login_line(alloc, generation)?.as_slice())?;
+            Ok(true)
+        }
+        Err(LoginRefused::Ended { .. }) | Err(LoginRefused::LoggedIn { .. }) => Ok(false),
+        Err(_) => Err(NoMemory),
+    }
+}
+
+fn submit(solo: &mut Solo, request: Request, out: &mut Vec<u8>) -> Result<bool, NoMemory>
+    requires { IsValid request.kind }
+    ensures { Acts (Submit request) solo.old out.old.items result solo.new out.new.items }
+{
+    match solo.submit(request) {
+        Ok(_) => Ok(true),
+        Err(SubmitRefused::Ended { .. }) | Err(SubmitRefused::Full { .. }) => Ok(false),
+        Err(_) => Err(NoMemory),
+    }
+}
+
+fn recv(solo: &mut Solo, alloc: Global, generation: u64, bytes: &[u8], out: &mut Vec<u8>) -> Result<bool, NoMemory>
+    ensures { Acts (Recv generation bytes.now) solo.old out.old.items result solo.new out.new.items }
+{
+    match solo.phase() {
+        Phase::LoggedIn { generation: live } if live == generation => {}
+        _ => return Ok(false),
+    }
+    let Some(pdu) = whole_pdu(alloc, bytes)? else {
+        return Ok(false);
+    };
+    match solo.receive(generation, pdu) {
+        Ok(_) => Ok(true),
+        Err(_) => Err(NoMemory),
+    }
+}
+
+// One transmission. Answers whether a PDU was sent.
+fn send_once(solo: &mut Solo, alloc: Global, generation: u64, out: &mut Vec<u8>) -> Result<bool, NoMemory>
+    requires { is_logged_in (now_of solo.old).phase generation ≡ true }
+    ensures { SendsOne solo.old generation out.old.items result solo.new out.new.items }
+{
+    let mut bytes = Vec::new(alloc);
+    match solo.transmit_next(generation, &mut bytes) {
+        Ok(Transmit::Sent(_)) => {
+            put(out, tx_line(alloc, generation, &bytes)?.as_slice())?;
+            Ok(true)
+        }
+        Ok(Transmit::Idle) => {
+            put(out, idle_line(alloc)?.as_slice())?;
+            Ok(false)
+        }
+        _ => Err(NoMemory),
+    }
+}
+
+// Up to so many transmissions, until nothing is left to send.
+fn send(solo: &mut Solo, alloc: Global, generation: u64, count: u32, out: &mut Vec<u8>) -> Result<(), NoMemory>
+    requires { is_logged_in (now_of solo.old).phase generation ≡ true }
+    ensures session { OnOk result (solo.new ≡ sends count generation solo.old) }
+    ensures text { OnOk result (out.new.items ≡ out.old.items ++ sends_text count generation solo.old) }
+{
+    for _i in 0..count {
+        if !send_once(solo, alloc, generation, out)? {
+            return Ok(());
+        }
+    }
+    Ok(())
+}
+
+fn send_line(solo: &mut Solo, alloc: Global, count: u32, out: &mut Vec<u8>) -> Result<bool, NoMemory>
+    ensures { Acts (Send count) solo.old out.old.items result solo.new out.new.items }
+{
+    if let Phase::LoggedIn { generation } = solo.phase() {
+        send(solo, alloc, generation, count, out)?;
+    }
+    Ok(true)
+}
+
+/// The entries and the text of a line. Answers whether the line can stand here.
+fn act(solo: &mut Solo, alloc: Global, line: DriveLine, out: &mut Vec<u8>) -> Result<bool, NoMemory>
+    requires { IsValidLine line }
+    ensures { Acts line solo.old out.old.items result solo.new out.new.items }
+{
+    match line {
+        DriveLine::Login {
+            cmdsn,
+            max,
+            exp_stat,
+            params,
+        } => {
+            let done = LoginDone {
+                params,
+                tsih: 0,
+                cmdsn,
+                max,
+                exp_stat,
+            };
+            login(solo, alloc, done, out)
+        }
+        DriveLine::Submit { request } => submit(solo, request, out),
+        DriveLine::Send { count } => send_line(solo, alloc, count, out),
+        DriveLine::Recv { generation, bytes } => recv(solo, alloc, generation, bytes.as_slice(), out),
+        DriveLine::End => Ok(true),
+    }
+}
+
+fn put_outcomes(alloc: Global, sid: u32, due: &[Delivered], out: &mut Vec<u8>) -> Result<(), NoMemory>
+    ensures { OnOk result (out.new.items ≡ out.old.items ++ outcome_lines sid due.now) }
+{
+    for d in due {
+        put(out, line_of(alloc, sid, d.id, &d.outcome)?.as_slice())?;
+    }
+    Ok(())
+}
+
+/// Hands out all that is due, and adds its lines.
+pub fn hand_out(solo: &mut Solo, alloc: Global, out: &mut Vec<u8>) -> Result<(), NoMemory>
+    ensures session { OnOk result (solo.new ≡ delivered solo.old) }
+    ensures text { OnOk result (out.new.items ≡ out.old.items ++ outcomes solo.old) }
+{
+    let sid = solo.sid();
+    let mut due = Vec::new(alloc);
+    if solo.deliver(&mut due).is_err() {
+        return Err(NoMemory);
+    }
+    put_outcomes(alloc, sid, &due, out)
+}

@@ -1,0 +1,7 @@
+//! `drive`: a session replayed from its input lines.
+#![tactic(auto)]
+
+mod acting;
+mod pdus;
+mod runner;
+mod writing;
