@@ -7,7 +7,7 @@ use Rattle.oi_pdu.specs.Wire.{head_of, whole_len, Decodes}
 use Rattle.oi_pdu.specs.declared.codec.Pdu.{Pdu}
 use Rattle.oi_stream.specs.Framing.{IsFrame}
 use Rattle.oi_stream.specs.Feeding.{IsKept}
-use Rattle.oi_stream.proofs.Pieces.{middle_over, take_sum}
+use Rattle.oi_stream.proofs.Fronts.{middle_over, take_sum}
 
 -- the bytes so far, while they are all of the header
 pub joined : (limit n k : ℕ) (rest chunk h h' x : List ℕ) → IsKept limit rest (take n h) x n → n < 48 → take (n + k) h' ≡ take n h ++ take k chunk → rest ++ take k chunk ≡ take (n + k) h'
@@ -23,9 +23,9 @@ pub header_short : (limit n k : ℕ) (rest chunk h h' x : List ℕ) → IsKept l
 header_short limit n k rest chunk h h' x kept within bytes below =
     let len = counted limit n k rest chunk (take n h) x kept within in
     record {
-        counted = len;
-        header = sym (joined limit n k rest chunk h h' x kept (omega arith) bytes) ∙ sym (take_all 48 (rest ++ take k chunk) (omega (arith, len)));
-        opened = λ there. absurd (omega (arith, len, there));
+      counted = len;
+      header = sym (joined limit n k rest chunk h h' x kept (omega arith) bytes) ∙ sym (take_all 48 (rest ++ take k chunk) (omega (arith, len)));
+      opened = λ there. absurd (omega (arith, len, there));
     }
 
 -- the header, once it is whole
@@ -38,13 +38,13 @@ header_whole limit n k rest chunk h h' x kept below bytes there long good fits =
     let e = header_is limit n k rest chunk h h' x kept below bytes there long in
     let same : take 48 h' ≡ h' = take_all 48 h' (omega arith) in
     let made : IsKept limit h' (take 48 h') [] 48 = record {
-        counted = sym long;
-        header = refl;
-        opened = λ _. record {
-            good = subst (λ (z : List ℕ). bad_header (basic_at z) ≡ None) (sym same) good;
-            fits = subst (λ (z : List ℕ). data_len z ≤ limit) (sym same) fits;
-            segment = sym (ap (λ (z : List ℕ). take (data_len (take 48 h')) z) (drop_all (48 + additional (take 48 h')) h' (omega arith)) ∙ take_all (data_len (take 48 h')) [] (omega arith));
-        };
+      counted = sym long;
+      header = refl;
+      opened = λ _. record {
+        good = subst (λ (z : List ℕ). bad_header (basic_at z) ≡ None) (sym same) good;
+        fits = subst (λ (z : List ℕ). data_len z ≤ limit) (sym same) fits;
+        segment = sym (ap (λ (z : List ℕ). take (data_len (take 48 h')) z) (drop_all (48 + additional (take 48 h')) h' (omega arith)) ∙ take_all (data_len (take 48 h')) [] (omega arith));
+      };
     } in
     subst (λ (z : List ℕ). IsKept limit z (take 48 h') [] 48) (sym e) made
 
@@ -53,7 +53,7 @@ pub header_there : (limit n k : ℕ) (rest chunk h h' x : List ℕ) → IsKept l
 header_there limit n k rest chunk h h' x kept below bytes there long =
     let e = header_is limit n k rest chunk h h' x kept below bytes there long in
     let all : rest ++ chunk ≡ h' ++ drop k chunk =
-        ap (λ (z : List ℕ). rest ++ z) (sym (take-append-drop k chunk)) ∙ sym (append_assoc rest (take k chunk) (drop k chunk)) ∙ ap (λ (z : List ℕ). z ++ drop k chunk) e in
+    ap (λ (z : List ℕ). rest ++ z) (sym (take-append-drop k chunk)) ∙ sym (append_assoc rest (take k chunk) (drop k chunk)) ∙ ap (λ (z : List ℕ). z ++ drop k chunk) e in
     (omega (arith, ap length all, length-append h' (drop k chunk)), sym (ap (take 48) all ∙ take_at h' (drop k chunk) 48 long))
 
 middle_step : (size at n : ℕ) (rest chunk x : List ℕ) → n ≡ length rest → x ≡ take size (drop at rest) → x ++ take (size - length x) (drop (at - n) chunk) ≡ take size (drop at (rest ++ chunk))
@@ -70,15 +70,15 @@ more_data limit n k rest chunk h x x' kept begun long within grown =
     let was = kept.opened (omega (arith, kept.counted)) in
     let old : x ≡ take (data_len h) (drop (48 + additional h) rest) = subst (λ (z : List ℕ). x ≡ take (data_len z) (drop (48 + additional z) rest)) (sym here) was.segment in
     let now : x' ≡ take (data_len h) (drop (48 + additional h) (rest ++ take k chunk)) =
-        grown ∙ middle_step (data_len h) (48 + additional h) n rest (take k chunk) x kept.counted old in
+    grown ∙ middle_step (data_len h) (48 + additional h) n rest (take k chunk) x kept.counted old in
     record {
-        counted = len;
-        header = take_all (n + k) h (omega arith) ∙ there;
-        opened = λ _. record {
-            good = subst (λ (z : List ℕ). bad_header (basic_at z) ≡ None) (sym still) was.good;
-            fits = subst (λ (z : List ℕ). data_len z ≤ limit) (sym still) was.fits;
-            segment = subst (λ (z : List ℕ). x' ≡ take (data_len z) (drop (48 + additional z) (rest ++ take k chunk))) there now;
-        };
+      counted = len;
+      header = take_all (n + k) h (omega arith) ∙ there;
+      opened = λ _. record {
+        good = subst (λ (z : List ℕ). bad_header (basic_at z) ≡ None) (sym still) was.good;
+        fits = subst (λ (z : List ℕ). data_len z ≤ limit) (sym still) was.fits;
+        segment = subst (λ (z : List ℕ). x' ≡ take (data_len z) (drop (48 + additional z) (rest ++ take k chunk))) there now;
+      };
     }
 
 -- a whole PDU
@@ -87,10 +87,10 @@ frame_of limit n rest h x p kept long begun all head payload =
     let here : h ≡ head_of rest = sym (take_all n h (omega arith)) ∙ kept.header in
     let was = kept.opened (omega (arith, kept.counted)) in
     let decoded : Decodes rest p = record {
-        whole = sym kept.counted ∙ all ∙ ap whole_len here;
-        good = was.good;
-        head = head ∙ ap (λ (z : List ℕ). header_of (basic_at z)) here;
-        payload = payload ∙ was.segment;
+      whole = sym kept.counted ∙ all ∙ ap whole_len here;
+      good = was.good;
+      head = head ∙ ap (λ (z : List ℕ). header_of (basic_at z)) here;
+      payload = payload ∙ was.segment;
     } in
     record { decodes = decoded; fits = was.fits }
 

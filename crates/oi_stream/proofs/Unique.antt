@@ -25,12 +25,12 @@ same_frame limit f g x y p q e a b =
     let front : f ≡ g = sym (take_at f x (length f) refl) ∙ ap (λ (z : List ℕ). take (length f) z) e ∙ take_at g y (length f) size in
     let heads : p.head ≡ q.head = a.decodes.head ∙ ap (λ (z : List ℕ). header_of (basic_at z)) head ∙ sym b.decodes.head in
     let payloads : p.payload ≡ q.payload =
-        a.decodes.payload ∙ ap (λ (z : List ℕ). take (data_len (head_of z)) (drop (48 + additional (head_of z)) z)) front ∙ sym b.decodes.payload in
+    a.decodes.payload ∙ ap (λ (z : List ℕ). take (data_len (head_of z)) (drop (48 + additional (head_of z)) z)) front ∙ sym b.decodes.payload in
     let made : Header → List ℕ → Pdu = λ h payload. record { head = h; payload = payload } in
     record {
-        pdu = ap (λ (h : Header). made h p.payload) heads ∙ ap (λ (z : List ℕ). made q.head z) payloads;
-        front = front;
-        rest = sym (drop_at f x (length f) refl) ∙ ap (λ (z : List ℕ). drop (length f) z) e ∙ drop_at g y (length f) size;
+      pdu = ap (λ (h : Header). made h p.payload) heads ∙ ap (λ (z : List ℕ). made q.head z) payloads;
+      front = front;
+      rest = sym (drop_at f x (length f) refl) ∙ ap (λ (z : List ℕ). drop (length f) z) e ∙ drop_at g y (length f) size;
     }
 
 none_is_some : (n : ℕ) → None ≡ Some n → ⊥
@@ -69,9 +69,9 @@ framed_once : (limit : ℕ) (ps qs : List Pdu) (a b x y : List ℕ) (s t : Stop)
 framed_once limit [] [] a b x y s t e run run' stop stop' =
     let same : x ≡ y = ap (λ (z : List ℕ). z ++ x) (sym run) ∙ e ∙ ap (λ (z : List ℕ). z ++ y) run' in
     record {
-        pdus = refl;
-        front = run ∙ sym run';
-        stop = same_stop limit y s t (subst (λ (z : List ℕ). StopsAt limit z s) same stop) stop';
+      pdus = refl;
+      front = run ∙ sym run';
+      stop = same_stop limit y s t (subst (λ (z : List ℕ). StopsAt limit z s) same stop) stop';
     }
 framed_once limit [] (q ∷ qs) a b x y s t e run run' stop stop' =
     let same : x ≡ run'.0 ++ (run'.1 ++ y) = ap (λ (z : List ℕ). z ++ x) (sym run) ∙ e ∙ ap (λ (z : List ℕ). z ++ y) run'.2.0 ∙ append_assoc run'.0 run'.1 y in
@@ -81,13 +81,13 @@ framed_once limit (p ∷ ps) [] a b x y s t e run run' stop stop' =
     absurd (not_stopped limit run.0 (run.1 ++ x) p t run.2.1 (subst (λ (z : List ℕ). StopsAt limit z t) same stop'))
 framed_once limit (p ∷ ps) (q ∷ qs) a b x y s t e run run' stop stop' =
     let all : run.0 ++ (run.1 ++ x) ≡ run'.0 ++ (run'.1 ++ y) =
-        sym (append_assoc run.0 run.1 x) ∙ ap (λ (z : List ℕ). z ++ x) (sym run.2.0) ∙ e ∙ ap (λ (z : List ℕ). z ++ y) run'.2.0 ∙ append_assoc run'.0 run'.1 y in
+    sym (append_assoc run.0 run.1 x) ∙ ap (λ (z : List ℕ). z ++ x) (sym run.2.0) ∙ e ∙ ap (λ (z : List ℕ). z ++ y) run'.2.0 ∙ append_assoc run'.0 run'.1 y in
     let first = same_frame limit run.0 run'.0 (run.1 ++ x) (run'.1 ++ y) p q all run.2.1 run'.2.1 in
     let rest = framed_once limit ps qs run.1 run'.1 x y s t first.rest run.2.2 run'.2.2 stop stop' in
     record {
-        pdus = ap (λ (z : Pdu). z ∷ ps) first.pdu ∙ ap (λ (z : List Pdu). q ∷ z) rest.pdus;
-        front = run.2.0 ∙ ap (λ (z : List ℕ). z ++ run.1) first.front ∙ ap (λ (z : List ℕ). run'.0 ++ z) rest.front ∙ sym run'.2.0;
-        stop = rest.stop;
+      pdus = ap (λ (z : Pdu). z ∷ ps) first.pdu ∙ ap (λ (z : List Pdu). q ∷ z) rest.pdus;
+      front = run.2.0 ∙ ap (λ (z : List ℕ). z ++ run.1) first.front ∙ ap (λ (z : List ℕ). run'.0 ++ z) rest.front ∙ sym run'.2.0;
+      stop = rest.stop;
     }
 
 pub one_framing : OneFraming

@@ -4,8 +4,13 @@
 mod fault;
 mod laws;
 mod part;
+mod pieces;
 mod splitter;
 
 pub use fault::StreamFault;
-pub use laws::one_framing;
+pub use laws::{followed_is_framed, one_framing};
+pub use pieces::frame_pieces;
 pub use splitter::Splitter;
+
+#[cfg(test)]
+mod tests;

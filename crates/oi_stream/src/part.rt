@@ -74,12 +74,7 @@ fn sizes(head: &[u8; 48]) -> (usize, usize, usize)
 }
 
 // Appends what a chunk has of a data segment of this size, which begins behind so many bytes of the chunk.
-fn grow(
-    payload: &mut Vec<u8>,
-    size: usize,
-    begin: usize,
-    chunk: &[u8],
-) -> Result<(), NoMemory>
+fn grow(payload: &mut Vec<u8>, size: usize, begin: usize, chunk: &[u8]) -> Result<(), NoMemory>
     ensures { OnOk result (payload.new.items ≡ payload.old.items ++ take (size - vec_len payload.old) (drop begin chunk.now)) }
 {
     if begin < chunk.len() {
@@ -91,12 +86,7 @@ fn grow(
 }
 
 // Takes bytes up to the end of the header, and looks at it once it is there.
-fn begin(
-    part: &mut Part,
-    limit: u32,
-    place: u64,
-    chunk: &[u8],
-) -> Result<usize, StreamFault>
+fn begin(part: &mut Part, limit: u32, place: u64, chunk: &[u8]) -> Result<usize, StreamFault>
     requires { IsGoing part.old }
     ensures { IsBegun limit place part.old part.new chunk.now result }
 {

@@ -8,18 +8,21 @@ use Rattle.oi_stream.proofs.part.begin.Goals as goal
 
 pub returns-then-part-taken-lt48 : goal.returns-then-part-taken-lt48
 returns-then-part-taken-lt48 c =
-    let p = c.args.part.now in
-    (record {
+    let p = c.args.part.now in (
+      record {
         within = omega arith;
         counted = refl;
         keeps = λ rest kept. header_short c.args.limit p.count c.fill-taken.result rest c.args.chunk.now p.head c.fill-taken.new.head p.payload.items kept (omega arith) c.fill-taken.ensures.bytes c.if-part-taken-lt48.true;
         sound = record {
-            long = c.fill-taken.ensures.long;
-            good = λ there. absurd (omega arith);
-            short = c.requires.sound.short;
-            within = λ there. absurd (omega arith);
+          long = c.fill-taken.ensures.long;
+          good = λ there. absurd (omega arith);
+          short = c.requires.sound.short;
+          within = λ there. absurd (omega arith);
         };
-    }, λ _. omega arith, λ there. absurd (omega arith))
+      },
+      λ _. omega arith,
+      λ there. absurd (omega arith),
+    )
 
 pub returns-in_err-size : goal.returns-in_err-size
 returns-in_err-size c =
@@ -32,17 +35,20 @@ pub returns : goal.returns
 returns c =
     let p = c.args.part.now in
     let h = c.fill-taken.new.head in
-    let checked = c.in_ok-size.ensures.checked in
-    (record {
+    let checked = c.in_ok-size.ensures.checked in (
+      record {
         within = omega arith;
         counted = omega arith;
         keeps = λ rest kept.
             subst (λ (z : List ℕ). IsKept c.args.limit (rest ++ take c.fill-taken.result c.args.chunk.now) (take 48 h) z 48) (sym c.in_ok-part.ensures.items)
-                (header_whole c.args.limit p.count c.fill-taken.result rest c.args.chunk.now p.head h p.payload.items kept (omega arith) c.fill-taken.ensures.bytes (omega arith) c.fill-taken.ensures.long checked.0 (omega (arith, checked)));
+            (header_whole c.args.limit p.count c.fill-taken.result rest c.args.chunk.now p.head h p.payload.items kept (omega arith) c.fill-taken.ensures.bytes (omega arith) c.fill-taken.ensures.long checked.0 (omega (arith, checked)));
         sound = record {
-            long = c.fill-taken.ensures.long;
-            good = λ _. checked.0;
-            short = omega (arith, ap length c.in_ok-part.ensures.items);
-            within = λ _. omega arith;
+          long = c.fill-taken.ensures.long;
+          good = λ _. checked.0;
+          short = omega (arith, ap length c.in_ok-part.ensures.items);
+          within = λ _. omega arith;
         };
-    }, λ there. absurd (omega (arith, there)), λ there. absurd (omega arith))
+      },
+      λ there. absurd (omega (arith, there)),
+      λ there. absurd (omega arith),
+    )

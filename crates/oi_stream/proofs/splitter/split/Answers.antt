@@ -9,9 +9,9 @@ use Rattle.oi_stream.proofs.splitter.split.Goals as goal
 
 pub loop-whole-init : goal.loop-whole-init
 loop-whole-init c = record {
-    within = omega arith;
-    going = c.requires;
-    so_far = goes_none (state_of c.args.limit c.args.place.now c.args.part.now false) c.args.piece.now c.args.out.now.items;
+  within = omega arith;
+  going = c.requires;
+  so_far = goes_none (state_of c.args.limit c.args.place.now c.args.part.now false) c.args.piece.now c.args.out.now.items;
 }
 
 pub returns-in_err-whole-clause-splits : goal.returns-in_err-whole-clause-splits
@@ -35,10 +35,10 @@ loop-whole-preserved c =
     let stepped = c.in_ok-whole.ensures in
     let made = subst (λ (z : List ℕ). MakesWhole c.args.limit c.loop-whole.part c.step.new.part z w) (take_rest piece at) (rw c.in-Some.is at stepped) in
     record {
-        within = omega (arith, made.within, length-drop at piece, c.loop-whole.invariant.within);
-        going = made.going;
-        so_far = subst (λ (z : List Pdu). GoesOn (state_of c.args.limit c.args.place.now c.args.part.now false) (state_of c.args.limit c.saturating_add.result c.step.new.part false) (take (at + w.taken) piece) c.args.out.now.items z) (sym c.in_ok-push.ensures.items)
-            (goes_more (state_of c.args.limit c.args.place.now c.args.part.now false) c.args.limit c.loop-whole.place c.saturating_add.result at c.loop-whole.part c.step.new.part piece c.args.out.now.items c.loop-whole.out.items w c.loop-whole.invariant.so_far made c.saturating_add.ensures);
+      within = omega (arith, made.within, length-drop at piece, c.loop-whole.invariant.within);
+      going = made.going;
+      so_far = subst (λ (z : List Pdu). GoesOn (state_of c.args.limit c.args.place.now c.args.part.now false) (state_of c.args.limit c.saturating_add.result c.step.new.part false) (take (at + w.taken) piece) c.args.out.now.items z) (sym c.in_ok-push.ensures.items)
+          (goes_more (state_of c.args.limit c.args.place.now c.args.part.now false) c.args.limit c.loop-whole.place c.saturating_add.result at c.loop-whole.part c.step.new.part piece c.args.out.now.items c.loop-whole.out.items w c.loop-whole.invariant.so_far made c.saturating_add.ensures);
     }
 
 pub returns-clause-splits : goal.returns-clause-splits

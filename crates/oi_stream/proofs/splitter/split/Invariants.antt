@@ -5,9 +5,9 @@ use Rattle.oi_stream.proofs.splitter.split.Given as goal
 
 abbrev pub invariant-loop-whole : goal.invariant-loop-whole
 invariant-loop-whole l = record {
-    within : l.at ≤ length l.piece;
-    going : IsGoing l.part;
-    so_far : GoesOn (state_of l.limit l.fn.place l.fn.part false) (state_of l.limit l.place l.part false) (take l.at l.piece) l.fn.out.items l.out.items;
+  within : l.at ≤ length l.piece;
+  going : IsGoing l.part;
+  so_far : GoesOn (state_of l.limit l.fn.place l.fn.part false) (state_of l.limit l.place l.part false) (take l.at l.piece) l.fn.out.items l.out.items;
 }
 
 abbrev pub decreases-loop-whole : goal.decreases-loop-whole
