@@ -1,0 +1,6 @@
+pub mod Fronts
+pub mod Kept
+pub mod Steps
+pub mod Course
+pub mod Unique
+pub mod Streams

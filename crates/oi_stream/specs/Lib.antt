@@ -1,0 +1,4 @@
+pub mod Feeding
+pub mod Framing
+pub mod Steps
+pub mod Streams
