@@ -9,7 +9,7 @@ use Rattle.oi_session.specs.Sessions.{Session, entered, next_to_send, now_of, re
 
 abbrev pub Acts : DriveLine → Session → List ℕ → Result Bool NoMemory → Session → List ℕ → Type 0
 Acts l old before (Ok true) new after = (fits l old ≡ true) × (new ≡ acted l old) × (after ≡ before ++ acted_text l old)
-Acts l old before (Ok false) new after = (fits l old ≡ false) × (new ≡ old)
+Acts l old before (Ok false) new after = (fits l old ≡ false) × (new ≡ old) × (after ≡ before)
 Acts l old before (Err e) new after = Unit {0}
 
 -- one transmission: true where a PDU went out, with its line; false where nothing is left to send

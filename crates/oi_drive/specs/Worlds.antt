@@ -5,6 +5,8 @@ use Rattle.std.specs.List.{flat_map}
 use Rattle.std.specs.Option.{option_map_or}
 use Rattle.oi_base.specs.Limits.{input_limit, line_limit, most_pending}
 use Rattle.oi_drive.specs.Pdus.{whole_pdu}
+use Rattle.oi_drive.specs.declared.runner.LineKind.{LineKind}
+use Rattle.oi_drive.specs.declared.runner.LineKind.TheVariants.{Receiving, Ending, Other}
 use Rattle.oi_drive.specs.declared.runner.Stop.{Stop}
 use Rattle.oi_drive.specs.declared.runner.Stop.TheVariants.{Asked, InputEnd, BadLine}
 use Rattle.oi_history.specs.Phases.{has_connection, is_ended, is_logged_in}
@@ -76,11 +78,21 @@ acted_text (Send count) s = sends_in_text (now_of s).phase count s
 acted_text (Recv generation bytes) s = []
 acted_text End s = []
 
+abbrev pub kind_of : DriveLine → LineKind
+kind_of (LoginLine cmdsn max exp_stat params) = Other
+kind_of (SubmitLine request) = Other
+kind_of (Send count) = Other
+kind_of (Recv generation bytes) = Receiving
+kind_of End = Ending
+
 -- where the input stops; a PDU that breaks the connection is not taken so far, and stops it like a bad line
+abbrev pub stop_by : LineKind → ℕ → Bool → Option Stop
+stop_by Receiving line broken = if broken then Some (BadLine line) else None
+stop_by Ending line broken = Some Asked
+stop_by Other line broken = None
+
 abbrev pub stop_after : DriveLine → ℕ → Session → Option Stop
-stop_after (Recv generation bytes) line s = if is_some (now_of s).broken then Some (BadLine line) else None
-stop_after End line s = Some Asked
-stop_after l line s = None
+stop_after l line s = stop_by (kind_of l) line (is_some (now_of s).broken)
 
 abbrev pub due_of_session : Session → List Delivered
 due_of_session s = due_in (now_of s).tasks

@@ -1,15 +1,15 @@
-ghost use Rattle.std.specs.Prelude.{◌≡◌, ◌≤◌, ◌++◌, OnOk, true};
+ghost use Rattle.std.specs.Prelude.{◌≡◌, ◌≤◌, ◌++◌, OnOk, Some, true};
 ghost use Rattle.oi_drive.specs.Acts.{Acts, SendsOne};
 ghost use Rattle.oi_history.specs.Phases.{is_logged_in};
 ghost use Rattle.oi_drive.specs.Runs.{seen};
-ghost use Rattle.oi_drive.specs.Worlds.{acted, acted_text, delivered, due_of_session, fits, line_by, line_by_text, line_step, line_text, outcome_lines, outcomes, sends, sends_text};
+ghost use Rattle.oi_drive.specs.Worlds.{acted, bad, kind_of, stop_by, acted_text, delivered, due_of_session, fits, line_by, line_by_text, line_step, line_text, outcome_lines, outcomes, sends, sends_text};
 ghost use Rattle.oi_script.specs.Lines.{IsValidLine};
 ghost use Rattle.oi_script.specs.declared.line.DriveLine.TheVariants.{Login as LoginLine, Recv, Send, Submit};
 ghost use Rattle.oi_scsi.specs.Requests.{IsValid};
 ghost use Rattle.oi_session.specs.Sessions.{entered, next_to_send, now_of, reaped, sent_bytes};
 
 use crate::pdus::whole_pdu;
-use crate::runner::{Runner, Stop};
+use crate::runner::{LineKind, Runner, Stop};
 use oi_base::{LoginDone, NoMemory};
 use oi_history::{Delivered, Phase};
 use oi_script::{DriveLine, LineFault, idle_line, line_of, login_line, read_drive, tx_line};
@@ -156,4 +156,65 @@ pub fn hand_out(solo: &mut Solo, alloc: Global, out: &mut Vec<u8>) -> Result<(),
         return Err(NoMemory);
     }
     put_outcomes(alloc, sid, &due, out)
+}
+
+fn kind_of(line: &DriveLine) -> LineKind
+    ensures { result ≡ kind_of line.now }
+{
+    match line {
+        DriveLine::Recv { .. } => LineKind::Receiving,
+        DriveLine::End => LineKind::Ending,
+        _ => LineKind::Other,
+    }
+}
+
+fn stop_by(kind: LineKind, line: u64, broken: bool) -> Option<Stop>
+    ensures { result ≡ stop_by kind line broken }
+{
+    match kind {
+        LineKind::Receiving if broken => Some(Stop::BadLine { line }),
+        LineKind::Ending => Some(Stop::Asked),
+        _ => None,
+    }
+}
+
+/// The line that has ended is outside the language.
+pub fn bad(run: &mut Runner)
+    ensures { seen run.new ≡ bad (seen run.old) }
+{
+    run.part.clear();
+    run.line = run.line.saturating_add(1);
+    run.stop = Some(Stop::BadLine { line: run.line });
+}
+
+// The entries and the text of a line that was read, and what is due behind them.
+fn by_line(run: &mut Runner, line: DriveLine, out: &mut Vec<u8>) -> Result<(), NoMemory>
+    requires { IsValidLine line }
+    ensures world { OnOk result (seen run.new ≡ line_by (seen run.old) (Some line)) }
+    ensures text { OnOk result (out.new.items ≡ out.old.items ++ line_by_text (seen run.old) (Some line)) }
+{
+    let kind = kind_of(&line);
+    if !act(&mut run.solo, run.alloc, line, out)? {
+        bad(run);
+        return Ok(());
+    }
+    run.part.clear();
+    run.line = run.line.saturating_add(1);
+    run.stop = stop_by(kind, run.line, run.solo.broken().is_some());
+    hand_out(&mut run.solo, run.alloc, out)
+}
+
+/// The line that has ended: its entries, and its text behind `out`.
+pub fn line_step(run: &mut Runner, out: &mut Vec<u8>) -> Result<(), NoMemory>
+    ensures world { OnOk result (seen run.new ≡ line_step (seen run.old)) }
+    ensures text { OnOk result (out.new.items ≡ out.old.items ++ line_text (seen run.old)) }
+{
+    match read_drive(run.alloc, &run.part) {
+        Ok(line) => by_line(run, line, out),
+        Err(LineFault::Bad) => {
+            bad(run);
+            Ok(())
+        }
+        Err(LineFault::Memory) => Err(NoMemory),
+    }
 }

@@ -4,4 +4,5 @@
 mod acting;
 mod pdus;
 mod runner;
+mod taking;
 mod writing;

@@ -1,3 +1,4 @@
+use oi_base::NoMemory;
 use oi_session::Solo;
 use std::alloc::Global;
 
@@ -9,6 +10,14 @@ pub enum Stop {
     InputEnd,
     /// This line is outside the language.
     BadLine { line: u64 },
+}
+
+/// What a line may stop.
+#[derive(Clone, Copy, Debug, PartialEq, Eq)]
+pub enum LineKind {
+    Receiving,
+    Ending,
+    Other,
 }
 
 /// What broke a run.
@@ -27,4 +36,15 @@ pub struct Runner {
     pub part: Vec<u8>,
     pub line: u64,
     pub stop: Option<Stop>,
+}
+
+impl From<NoMemory> for Broken {
+    ghost use Rattle.oi_drive.specs.declared.runner.Broken.TheVariants.{Memory};
+    ghost use Rattle.std.specs.Prelude.{◌≡◌};
+
+    ghost from_gives = { λ _ e. e ≡ Memory };
+
+    fn from(_e: NoMemory) -> Broken {
+        Broken::Memory
+    }
 }

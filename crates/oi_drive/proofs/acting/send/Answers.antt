@@ -1,39 +1,37 @@
-use Rattle.std.proofs.Common.{rules, ◌≡◌, ◌≤◌, ◌++◌, OnOk, true, ℕ, ◌+◌, ◌-◌, ◌*◌, ◌<◌, length, ◌/◌, ◌%◌, Bool, false, nat_eq, nat_lt, List, [], ◌∷◌, slice_index_or, slice_set, bit_and, bit_or, Fits, w8, w32, w64, Bor, MutBor}
-use Rattle.oi_drive.specs.Acts.{Acts, SendsOne}
-use Rattle.oi_history.specs.Phases.{is_logged_in}
-use Rattle.oi_drive.specs.Runs.{seen}
-use Rattle.oi_drive.specs.Worlds.{acted, acted_text, delivered, due_of_session, fits, line_by, line_by_text, line_step, line_text, outcome_lines, outcomes, sends, sends_text}
-use Rattle.oi_script.specs.Lines.{IsValidLine}
-use Rattle.oi_script.specs.declared.line.DriveLine.TheVariants.{Login as LoginLine}
-use Rattle.oi_script.specs.declared.line.DriveLine.TheVariants.{Recv, Send, Submit}
-use Rattle.oi_scsi.specs.Requests.{IsValid}
-use Rattle.oi_session.specs.Sessions.{entered, next_to_send, now_of, reaped, sent_bytes}
+use Rattle.std.proofs.Common.{◌≡◌, Bool, true, false, Ok, subst, arith, rules}
+use Rattle.oi_drive.proofs.Repeats.{Sent, not_false, not_true, sending_first, sending_idle, sending_more, sending_over}
+use Rattle.oi_drive.specs.Acts.{SendsOne}
 use Rattle.oi_drive.proofs.acting.send.Goals as goal
 
--- src/acting.rt:94:5
 pub loop-i-init : goal.loop-i-init
-loop-i-init c = ?
+loop-i-init c = sending_first c.args.generation c.args.count c.args.solo.now c.args.out.now.items c.requires
 
--- src/acting.rt:95:13
-pub send_once-requires : goal.send_once-requires
-send_once-requires c = ?
-
--- src/acting.rt:96:13
-pub returns-then-not-branch-clause-session : goal.returns-then-not-branch-clause-session
-returns-then-not-branch-clause-session c = ?
-
--- src/acting.rt:96:13
-pub returns-then-not-branch-clause-text : goal.returns-then-not-branch-clause-text
-returns-then-not-branch-clause-text c = ?
-
--- src/acting.rt:94:5
 pub loop-i-preserved : goal.loop-i-preserved
-loop-i-preserved c = ?
+loop-i-preserved c =
+    let on : c.in_ok-send_once.field-0 ≡ true = first_of (assumption c.if-not-branch.false, search (rules, not_false)) in
+    let one = subst (λ (b : Bool). SendsOne c.loop-i.solo c.args.generation c.loop-i.out.items (Ok b) c.send_once.new.solo c.send_once.new.out.items) on c.in_ok-send_once.ensures in
+    sending_more c.args.generation c.args.count c.loop-i._i c.args.solo.now c.loop-i.solo c.send_once.new.solo c.args.out.now.items c.loop-i.out.items c.send_once.new.out.items one.0
+        c.loop-i-test.true c.loop-i.invariant one.1 one.2 one.3
 
--- src/acting.rt:89:1
+pub send_once-requires : goal.send_once-requires
+send_once-requires c = c.loop-i.invariant.live
+
+pub returns-then-not-branch-clause-session : goal.returns-then-not-branch-clause-session
+returns-then-not-branch-clause-session c =
+    let off : c.in_ok-send_once.field-0 ≡ false = first_of (assumption c.if-not-branch.true, search (rules, not_true)) in
+    let one = subst (λ (b : Bool). SendsOne c.loop-i.solo c.args.generation c.loop-i.out.items (Ok b) c.send_once.new.solo c.send_once.new.out.items) off c.in_ok-send_once.ensures in
+    (sending_idle c.args.generation c.args.count c.loop-i._i c.args.solo.now c.loop-i.solo c.send_once.new.solo c.args.out.now.items c.loop-i.out.items c.send_once.new.out.items
+        c.loop-i-test.true c.loop-i.invariant one.0 one.1 one.2).session
+
+pub returns-then-not-branch-clause-text : goal.returns-then-not-branch-clause-text
+returns-then-not-branch-clause-text c =
+    let off : c.in_ok-send_once.field-0 ≡ false = first_of (assumption c.if-not-branch.true, search (rules, not_true)) in
+    let one = subst (λ (b : Bool). SendsOne c.loop-i.solo c.args.generation c.loop-i.out.items (Ok b) c.send_once.new.solo c.send_once.new.out.items) off c.in_ok-send_once.ensures in
+    (sending_idle c.args.generation c.args.count c.loop-i._i c.args.solo.now c.loop-i.solo c.send_once.new.solo c.args.out.now.items c.loop-i.out.items c.send_once.new.out.items
+        c.loop-i-test.true c.loop-i.invariant one.0 one.1 one.2).text
+
 pub returns-clause-session : goal.returns-clause-session
-returns-clause-session c = ?
+returns-clause-session c = (sending_over c.args.generation c.args.count c.loop-i._i c.args.solo.now c.loop-i.solo c.args.out.now.items c.loop-i.out.items (omega arith) c.loop-i.invariant).session
 
--- src/acting.rt:89:1
 pub returns-clause-text : goal.returns-clause-text
-returns-clause-text c = ?
+returns-clause-text c = (sending_over c.args.generation c.args.count c.loop-i._i c.args.solo.now c.loop-i.solo c.args.out.now.items c.loop-i.out.items (omega arith) c.loop-i.invariant).text

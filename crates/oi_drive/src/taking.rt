@@ -1,0 +1,80 @@
+ghost use Rattle.std.specs.Prelude.{◌≡◌, ◌++◌, ◌∷◌, [], OnOk};
+ghost use Rattle.oi_drive.specs.Runs.{seen};
+ghost use Rattle.oi_drive.specs.Worlds.{byte_text, feed, feed_byte, feed_text, input_end, input_end_text, line_step, line_text};
+ghost use Rattle.oi_drive.specs.Writes.{Prints};
+
+use crate::acting::{bad, line_step};
+use crate::runner::{Broken, Runner, Stop};
+use crate::writing::print;
+use oi_base::NoMemory;
+use oi_outside::Sink;
+
+const LINE_LIMIT: usize = 1_048_576;
+
+// One byte more of a line.
+fn grow(part: &mut Vec<u8>, b: u8) -> Result<(), NoMemory>
+    ensures { OnOk result (part.new.items ≡ part.old.items ++ b ∷ []) }
+{
+    part.push(b)?;
+    Ok(())
+}
+
+// The line has ended: its text goes out before anything else is read.
+fn end_line<K: Sink>(run: &mut Runner, sink: &mut K) -> Result<(), Broken>
+    ensures world { OnOk result (seen run.new ≡ line_step (seen run.old)) }
+    ensures prints { Prints result (line_text (seen run.old)) (K.held sink.old) (K.held sink.new) (K.faults sink.old) (K.faults sink.new) }
+{
+    let mut out = Vec::new(run.alloc);
+    line_step(run, &mut out)?;
+    print(sink, &out)
+}
+
+/// One byte of the input.
+pub fn take_byte<K: Sink>(run: &mut Runner, sink: &mut K, b: u8) -> Result<(), Broken>
+    ensures world { OnOk result (seen run.new ≡ feed_byte (seen run.old) b) }
+    ensures prints { Prints result (byte_text (seen run.old) b) (K.held sink.old) (K.held sink.new) (K.faults sink.old) (K.faults sink.new) }
+{
+    if run.stop.is_some() {
+        return Ok(());
+    }
+    if b == b'\n' {
+        return end_line(run, sink);
+    }
+    if run.part.len() < LINE_LIMIT {
+        grow(&mut run.part, b)?;
+    } else {
+        bad(run);
+    }
+    Ok(())
+}
+
+/// A piece of the input.
+pub fn take_piece<K: Sink>(run: &mut Runner, sink: &mut K, piece: &[u8]) -> Result<(), Broken>
+    ensures world { OnOk result (seen run.new ≡ feed (seen run.old) piece.now) }
+    ensures prints { Prints result (feed_text (seen run.old) piece.now) (K.held sink.old) (K.held sink.new) (K.faults sink.old) (K.faults sink.new) }
+{
+    for b in piece {
+        match take_byte(run, sink, *b) {
+            Ok(()) => {}
+            Err(broken) => return Err(broken),
+        }
+    }
+    Ok(())
+}
+
+/// The end of the input: a last line may lack its line feed.
+pub fn end_of_input<K: Sink>(run: &mut Runner, sink: &mut K) -> Result<(), Broken>
+    ensures world { OnOk result (seen run.new ≡ input_end (seen run.old)) }
+    ensures prints { Prints result (input_end_text (seen run.old)) (K.held sink.old) (K.held sink.new) (K.faults sink.old) (K.faults sink.new) }
+{
+    if run.stop.is_some() {
+        return Ok(());
+    }
+    if !run.part.is_empty() {
+        end_line(run, sink)?;
+    }
+    if run.stop.is_none() {
+        run.stop = Some(Stop::InputEnd);
+    }
+    Ok(())
+}
