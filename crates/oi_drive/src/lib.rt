@@ -3,6 +3,7 @@
 
 mod acting;
 mod pdus;
+mod reading;
 mod runner;
 mod taking;
 mod writing;
