@@ -5,3 +5,4 @@ pub mod Heads
 pub mod Alphabets
 pub mod Faults
 pub mod Addresses
+pub mod Spellings

@@ -242,3 +242,30 @@ extended_ends A B c apart text a is (inr (x, back, e, ax, b)) =
     let at : a.place ≡ length x = goes_to A c apart text a is x back e ax in
     let front : take a.place text ≡ x = ap (λ (n : ℕ). take n text) at ∙ (ap (λ (z : List ℕ). take (length x) z) e ∙ take_at x (c ∷ back) (length x) refl) in
     record { whole = is.only (subst A (sym front) ax); rest = inr (back, e ∙ ap (λ (z : List ℕ). z ++ c ∷ back) (sym front), b) }
+
+pub no_extended_short : (A B : List ℕ → Type 0) (c : ℕ) → Apart A c → (text : List ℕ) (a : Reach) → IsReach A text a → not a.whole ≡ true → IsExtended A c B text → ⊥
+no_extended_short A B c apart text a is out w =
+    let ends = extended_ends A B c apart text a is w in
+    let open_end : not a.whole ≡ false = ap not ends.whole in
+    cc
+
+no_rest : (A B : List ℕ → Type 0) (c : ℕ) (text : List ℕ) (a : Reach) → IsReach A text a → (a.place ≡ length text → ⊥) → (a.whole ≡ true → a.place < length text → get_or text a.place 0 ≡ c → ⊥) → Ends A c B text a → ⊥
+no_rest A B c text a is long none ends = go ends.rest where
+  go : (a.place ≡ length text) ⊎ ((back : List ℕ) × (text ≡ take a.place text ++ c ∷ back) × B back) → ⊥
+  go (inl all) = long all
+  go (inr (back, e, b)) =
+      let front : length (take a.place text) ≡ a.place = length-take-le a.place text is.at.within in
+      none ends.whole (omega (arith, ap length e, length-append (take a.place text) (c ∷ back), front))
+      (ap (λ (z : List ℕ). get_or z a.place 0) e ∙ get_or_at (take a.place text) c back 0 a.place front)
+
+pub no_extended_none : (A B : List ℕ → Type 0) (c : ℕ) → Apart A c → (text : List ℕ) (a : Reach) → IsReach A text a → (a.place ≡ length text → ⊥) → (a.whole ≡ true → a.place < length text → get_or text a.place 0 ≡ c → ⊥) → IsExtended A c B text → ⊥
+no_extended_none A B c apart text a is long none w = no_rest A B c text a is long none (extended_ends A B c apart text a is w)
+
+pub no_extended_part : (A B : List ℕ → Type 0) (c : ℕ) → Apart A c → (text part : List ℕ) (a : Reach) → IsReach A text a → (a.place ≡ length text → ⊥) → text ≡ take a.place text ++ c ∷ part → (B part → ⊥) → IsExtended A c B text → ⊥
+no_extended_part A B c apart text part a is long e none w = go (extended_ends A B c apart text a is w).rest where
+  go : (a.place ≡ length text) ⊎ ((back : List ℕ) × (text ≡ take a.place text ++ c ∷ back) × B back) → ⊥
+  go (inl all) = long all
+  go (inr (back, is_back, b)) =
+      let both = split_same (take a.place text) (take a.place text) (c ∷ part) (c ∷ back) refl (sym e ∙ is_back) in
+      let same : back ≡ part = cc in
+      none (subst B same b)

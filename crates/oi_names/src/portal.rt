@@ -1,4 +1,4 @@
-ghost use Rattle.std.specs.Prelude.{◌≡◌, ◌≤◌, ◌<◌, ◌+◌, ◌++◌, ◌==◌, ℕ, Option, not, IfOk, IfErr, OnOk, OnErr, MatchOption, length, take, drop};
+ghost use Rattle.std.specs.Prelude.{◌≡◌, ◌≤◌, ◌<◌, ◌+◌, ◌++◌, ◌==◌, ℕ, List, Option, not, IfOk, IfErr, OnOk, OnErr, MatchOption, length, take, drop};
 ghost use Rattle.std.specs.List.{prefix_len};
 ghost use Rattle.oi_base.specs.Decimal.{IsNumber};
 ghost use Rattle.oi_names.specs.Grammars.{IsJoined};
@@ -56,10 +56,14 @@ impl Portal {
     /// Appends `ADDRESS:PORT`.
     pub fn write(&self, out: &mut Vec<u8>) -> Result<(), NoMemory>
         ensures ok { OnOk result (out.new.items ≡ out.old.items ++ portal_text self.now.address self.now.port) }
+        ensures err { OnErr result (out.new.items ≡ out.old.items) }
     {
-        out.extend_from_slice(self.address.as_slice())?;
-        out.push(b':')?;
-        write_number(self.port as u64, out)
+        let start = out.len();
+        let done = append(self.address.as_slice(), self.port, out);
+        if done.is_err() {
+            out.truncate(start);
+        }
+        done
     }
 
     pub fn copy(&self, alloc: Global) -> Result<Portal, NoMemory>
@@ -70,6 +74,16 @@ impl Portal {
             port: self.port,
         })
     }
+}
+
+// Appends an address and a port; where it fails, a part of them.
+fn append(address: &[u8], port: u16, out: &mut Vec<u8>) -> Result<(), NoMemory>
+    ensures ok { OnOk result (out.new.items ≡ out.old.items ++ portal_text address.now port) }
+    ensures err { OnErr result ((more : List ℕ) × (out.new.items ≡ out.old.items ++ more)) }
+{
+    out.extend_from_slice(address)?;
+    out.push(b':')?;
+    write_number(port as u64, out)
 }
 
 // How far a text goes in an address with a port behind it.
@@ -177,21 +191,21 @@ fn read_parts(text: &[u8]) -> Option<Parts>
     let Some(endpoint) = read_endpoint(before(text, front)) else {
         return None;
     };
-    match after(text, front) {
-        [] => Some(Parts {
+    if front == text.len() {
+        return Some(Parts {
             host: endpoint.host,
             port: endpoint.port,
             tag: None,
-        }),
-        [_, digits @ ..] => match read_number(digits, 0, 65535) {
-            Some(tag) => Some(Parts {
-                host: endpoint.host,
-                port: endpoint.port,
-                tag: Some(tag as u16),
-            }),
-            None => None,
-        },
+        });
     }
+    let Some(tag) = read_number(after(text, front + 1), 0, 65535) else {
+        return None;
+    };
+    Some(Parts {
+        host: endpoint.host,
+        port: endpoint.port,
+        tag: Some(tag as u16),
+    })
 }
 
 // How many bytes stand before the first comma.
