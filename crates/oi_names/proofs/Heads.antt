@@ -65,12 +65,14 @@ led_here G word w head text k is less = record {
   only = λ e. absurd (omega (arith, ap length e.1, length-append head e.0, length-take-le k text within));
 }
   where
-  within : k ≤ length text
-  within = omega (arith, shared_within text head)
-  fronts : take k text ≡ take k head
-  fronts = rw is (shared_take text head)
-  longest : (n : ℕ) → k < n → n ≤ length text → Begins (IsLed head G) (take n text) → ⊥
-  longest n past inside (rest, (more, e, g)) = omega (arith, shared_most text head rest more n e inside (omega arith))
+    within : k ≤ length text
+    within = omega (arith, shared_within text head)
+
+    fronts : take k text ≡ take k head
+    fronts = rw is (shared_take text head)
+
+    longest : (n : ℕ) → k < n → n ≤ length text → Begins (IsLed head G) (take n text) → ⊥
+    longest n past inside (rest, (more, e, g)) = omega (arith, shared_most text head rest more n e inside (omega arith))
 
 pub led_whole : (head text : List ℕ) (k : ℕ) → k ≡ shared text head → length head ≤ k → text ≡ head ++ drop (length head) text
 led_whole head text k is more =

@@ -6,3 +6,4 @@ pub mod Alphabets
 pub mod Faults
 pub mod Addresses
 pub mod Spellings
+pub mod Readings

@@ -50,9 +50,9 @@ first_further A B text a b x y more = record {
   only = go;
 }
   where
-  go : IsEither A B (take a.place text) → a.whole ≡ true
-  go (inl w) = x.only w
-  go (inr w) = absurd (y.at.longest a.place more x.at.within ([], subst B (sym (append-nil _)) w))
+    go : IsEither A B (take a.place text) → a.whole ≡ true
+    go (inl w) = x.only w
+    go (inr w) = absurd (y.at.longest a.place more x.at.within ([], subst B (sym (append-nil _)) w))
 
 second_further : (A B : List ℕ → Type 0) (text : List ℕ) (a b : Reach) → IsReach A text a → IsReach B text b → a.place < b.place → IsReach (IsEither A B) text b
 second_further A B text a b x y more = record {
@@ -65,9 +65,9 @@ second_further A B text a b x y more = record {
   only = go;
 }
   where
-  go : IsEither A B (take b.place text) → b.whole ≡ true
-  go (inl w) = absurd (x.at.longest b.place more y.at.within ([], subst A (sym (append-nil _)) w))
-  go (inr w) = y.only w
+    go : IsEither A B (take b.place text) → b.whole ≡ true
+    go (inl w) = absurd (x.at.longest b.place more y.at.within ([], subst A (sym (append-nil _)) w))
+    go (inr w) = y.only w
 
 or_true : (a b : Bool) → (a || b) ≡ true → (a ≡ true) ⊎ (b ≡ true)
 or_true true b e = inl refl
@@ -92,12 +92,13 @@ both_as_far A B text a b x y same = record {
   only = go;
 }
   where
-  one : (a.whole ≡ true) ⊎ (b.whole ≡ true) → IsEither A B (take a.place text)
-  one (inl w) = inl (x.word w)
-  one (inr w) = inr (subst (λ (n : ℕ). B (take n text)) (sym same) (y.word w))
-  go : IsEither A B (take a.place text) → (a.whole || b.whole) ≡ true
-  go (inl w) = or_first a.whole b.whole (x.only w)
-  go (inr w) = true_or a.whole b.whole (y.only (subst (λ (n : ℕ). B (take n text)) same w))
+    one : (a.whole ≡ true) ⊎ (b.whole ≡ true) → IsEither A B (take a.place text)
+    one (inl w) = inl (x.word w)
+    one (inr w) = inr (subst (λ (n : ℕ). B (take n text)) (sym same) (y.word w))
+
+    go : IsEither A B (take a.place text) → (a.whole || b.whole) ≡ true
+    go (inl w) = or_first a.whole b.whole (x.only w)
+    go (inr w) = true_or a.whole b.whole (y.only (subst (λ (n : ℕ). B (take n text)) same w))
 
 pub further_reach : (A B : List ℕ → Type 0) (text : List ℕ) (a b : Reach) → IsReach A text a → IsReach B text b → IsReach (IsEither A B) text (further a b)
 further_reach A B text a b x y = go (ltb a.place b.place) (ltb b.place a.place) refl refl where
@@ -145,8 +146,10 @@ goes_to : (A : List ℕ → Type 0) (c : ℕ) → Apart A c → (text : List ℕ
 goes_to A c apart text a is x s e ax = go (cases_lt a.place (length x)) (cases_lt (length x) a.place) where
   front : take (length x) text ≡ x
   front = ap (λ (z : List ℕ). take (length x) z) e ∙ take_at x (c ∷ s) (length x) refl
+
   long : length text ≡ length x + length (c ∷ s)
   long = ap length e ∙ length-append x (c ∷ s)
+
   go : (a.place < length x) ⊎ (length x ≤ a.place) → (length x < a.place) ⊎ (a.place ≤ length x) → a.place ≡ length x
   go (inl less) more = absurd (is.at.longest (length x) less (omega (arith, long)) ([], subst A (sym (append-nil _ ∙ front)) ax))
   go (inr p) (inl more) =
@@ -177,15 +180,16 @@ joined_here A B c apart word bw text a is none = record {
   only = λ w. absurd (stops w.0 (w.1 ++ drop a.place text) (sym (take-append-drop a.place text) ∙ (ap (λ (z : List ℕ). z ++ drop a.place text) w.2 ∙ append_assoc w.0 (c ∷ w.1) (drop a.place text))) w.3);
 }
   where
-  stops : (x s : List ℕ) → text ≡ x ++ c ∷ s → A x → ⊥
-  stops = stop_at A c apart text a is none
-  longest : (n : ℕ) → a.place < n → n ≤ length text → (b : Begins (IsJoined A c B) (take n text)) → (length b.1.0 < n) ⊎ (n ≤ length b.1.0) → ⊥
-  longest n past within (rest, (x, back, e, ax, bb)) (inl short) =
-      let d = past_front x (take n text) back rest c (sym e) (omega (arith, length-take-le n text within)) in
-      stops x (d.0 ++ drop n text) (sym (take-append-drop n text) ∙ (ap (λ (z : List ℕ). z ++ drop n text) d.1 ∙ append_assoc x (c ∷ d.0) (drop n text))) ax
-  longest n past within (rest, (x, back, e, ax, bb)) (inr long) =
-      let d = over_front (take n text) x rest (c ∷ back) e (omega (arith, length-take-le n text within)) in
-      is.at.longest n past within (d.0, subst A d.1 ax)
+    stops : (x s : List ℕ) → text ≡ x ++ c ∷ s → A x → ⊥
+    stops = stop_at A c apart text a is none
+
+    longest : (n : ℕ) → a.place < n → n ≤ length text → (b : Begins (IsJoined A c B) (take n text)) → (length b.1.0 < n) ⊎ (n ≤ length b.1.0) → ⊥
+    longest n past within (rest, (x, back, e, ax, bb)) (inl short) =
+        let d = past_front x (take n text) back rest c (sym e) (omega (arith, length-take-le n text within)) in
+        stops x (d.0 ++ drop n text) (sym (take-append-drop n text) ∙ (ap (λ (z : List ℕ). z ++ drop n text) d.1 ∙ append_assoc x (c ∷ d.0) (drop n text))) ax
+    longest n past within (rest, (x, back, e, ax, bb)) (inr long) =
+        let d = over_front (take n text) x rest (c ∷ back) e (omega (arith, length-take-le n text within)) in
+        is.at.longest n past within (d.0, subst A d.1 ax)
 
 -- a fixed text, then a word
 
@@ -202,12 +206,12 @@ led_past G head rest b is =
       only = λ w. is.only (subst G (sym (split_same head head (take b.place rest) w.0 refl (sym front ∙ w.1)).1) w.2);
     }
   where
-  longest : (n : ℕ) → length head + b.place < n → n ≤ length (head ++ rest) → Begins (IsLed head G) (take n (head ++ rest)) → ⊥
-  longest n past within (more, (word, e, w)) =
-      let k = n - length head in
-      let whole : head ++ (take k rest ++ more) ≡ head ++ word =
-      sym (append_assoc head (take k rest) more) ∙ (ap (λ (z : List ℕ). z ++ more) (sym (take_join head rest k n (omega arith))) ∙ e) in
-      is.at.longest k (omega arith) (omega (arith, length-append head rest)) (more, subst G (sym (split_same head head (take k rest ++ more) word refl whole).1) w)
+    longest : (n : ℕ) → length head + b.place < n → n ≤ length (head ++ rest) → Begins (IsLed head G) (take n (head ++ rest)) → ⊥
+    longest n past within (more, (word, e, w)) =
+        let k = n - length head in
+        let whole : head ++ (take k rest ++ more) ≡ head ++ word =
+        sym (append_assoc head (take k rest) more) ∙ (ap (λ (z : List ℕ). z ++ more) (sym (take_join head rest k n (omega arith))) ∙ e) in
+        is.at.longest k (omega arith) (omega (arith, length-append head rest)) (more, subst G (sym (split_same head head (take k rest ++ more) word refl whole).1) w)
 
 -- what a text that goes so far is and is not
 

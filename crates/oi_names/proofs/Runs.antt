@@ -58,15 +58,19 @@ run_reach p low high w fits pw text k at is place = record {
   only = λ r. test_from_le low k (omega (arith, r.0, taken));
 }
   where
-  within : at ≤ length text
-  within = omega (arith, is, place, prefix_len-le-length p text)
-  fill : List ℕ
-  fill = replicate (low - at) w
-  taken : length (take at text) ≡ at
-  taken = length-take-le at text within
-  long : length (take at text ++ replicate (low - at) w) ≡ at + (low - at)
-  long = omega (arith, length-append (take at text) (replicate (low - at) w), taken, length-replicate (low - at) w)
-  longest : (n : ℕ) → at < n → n ≤ length text → Begins (IsRun p low high) (take n text) → ⊥
-  longest n past inside (rest, (least, most, all)) =
-      let passes : list_all p (take n text) ≡ true = and_first (list_all p (take n text)) (list_all p rest) (sym (list_all-append p (take n text) rest) ∙ all) in
-      omega (arith, stops_front p text n inside passes, is, place, length-append (take n text) rest, length-take-le n text inside)
+    within : at ≤ length text
+    within = omega (arith, is, place, prefix_len-le-length p text)
+
+    fill : List ℕ
+    fill = replicate (low - at) w
+
+    taken : length (take at text) ≡ at
+    taken = length-take-le at text within
+
+    long : length (take at text ++ replicate (low - at) w) ≡ at + (low - at)
+    long = omega (arith, length-append (take at text) (replicate (low - at) w), taken, length-replicate (low - at) w)
+
+    longest : (n : ℕ) → at < n → n ≤ length text → Begins (IsRun p low high) (take n text) → ⊥
+    longest n past inside (rest, (least, most, all)) =
+        let passes : list_all p (take n text) ≡ true = and_first (list_all p (take n text)) (list_all p rest) (sym (list_all-append p (take n text) rest) ∙ all) in
+        omega (arith, stops_front p text n inside passes, is, place, length-append (take n text) rest, length-take-le n text inside)

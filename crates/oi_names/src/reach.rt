@@ -47,7 +47,7 @@ pub fn behind(text: &[u8], reach: Reach, byte: u8) -> Option<&[u8]>
     ensures { MatchOption result
         (reach.whole ≡ true → reach.place < length text.now → slice_index text.now reach.place ≡ byte → ⊥)
         (λ rest. (reach.whole ≡ true) × (text.now ≡ take reach.place text.now ++ byte ∷ rest.now)
-            × (reach.place + 1 + length rest.now ≡ length text.now)) }
+        × (reach.place + 1 + length rest.now ≡ length text.now)) }
 {
     if !reach.whole {
         return None;
