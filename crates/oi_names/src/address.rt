@@ -20,11 +20,17 @@ pub fn number_reach(text: &[u8], low: u64, high: u64) -> Reach
     }
 }
 
+fn octet_reach(text: &[u8]) -> Reach
+    ensures { IsReach (IsNumber 0 255) text.now result }
+{
+    number_reach(text, 0, 255)
+}
+
 // Numbers with so many dots between them.
 fn dotted_reach(text: &[u8], dots: u8) -> Reach
     ensures { IsReach (IsDotted dots) text.now result }
 {
-    let octet = number_reach(text, 0, 255);
+    let octet = octet_reach(text);
     if dots == 0 {
         return octet;
     }

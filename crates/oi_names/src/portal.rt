@@ -1,6 +1,6 @@
 ghost use Rattle.std.specs.Prelude.{◌≡◌, ◌≤◌, ◌<◌, ◌+◌, ◌++◌, ◌==◌, ℕ, List, Option, not, IfOk, IfErr, OnOk, OnErr, MatchOption, length, take, drop};
 ghost use Rattle.std.specs.List.{prefix_len};
-ghost use Rattle.oi_base.specs.Decimal.{IsNumber};
+ghost use Rattle.oi_base.specs.Decimal.{IsNumber, IsNumberOf};
 ghost use Rattle.oi_names.specs.Grammars.{IsJoined};
 ghost use Rattle.oi_names.specs.Names.{IsFault};
 ghost use Rattle.oi_names.specs.Portals.{HasPort, IsAddress, IsEndpoint, IsPortal, IsPortalOf, IsSpelled, lower_byte, lower_case, portal_text};
@@ -166,13 +166,23 @@ fn read_endpoint(text: &[u8]) -> Option<Endpoint>
     let Some(digits) = behind(text, address, b':') else {
         return None;
     };
-    let Some(port) = read_number(digits, 1, 65535) else {
+    let Some(port) = read_port(digits) else {
         return None;
     };
     Some(Endpoint {
         host: address.place,
-        port: port as u16,
+        port,
     })
+}
+
+fn read_port(text: &[u8]) -> Option<u16>
+    ensures { MatchOption result ((n : ℕ) → 1 ≤ n → n ≤ 65535 → IsNumberOf text.now n → ⊥)
+        (λ n. (1 ≤ n) × (n ≤ 65535) × IsNumberOf text.now n) }
+{
+    match read_number(text, 1, 65535) {
+        Some(port) => Some(port as u16),
+        None => None,
+    }
 }
 
 // The parts of a portal's text: an address of so many bytes, the port and the tag.
@@ -198,14 +208,24 @@ fn read_parts(text: &[u8]) -> Option<Parts>
             tag: None,
         });
     }
-    let Some(tag) = read_number(after(text, front + 1), 0, 65535) else {
+    let Some(tag) = read_tag(after(text, front + 1)) else {
         return None;
     };
     Some(Parts {
         host: endpoint.host,
         port: endpoint.port,
-        tag: Some(tag as u16),
+        tag: Some(tag),
     })
+}
+
+fn read_tag(text: &[u8]) -> Option<u16>
+    ensures { MatchOption result ((n : ℕ) → n ≤ 65535 → IsNumberOf text.now n → ⊥)
+        (λ n. (n ≤ 65535) × IsNumberOf text.now n) }
+{
+    match read_number(text, 0, 65535) {
+        Some(tag) => Some(tag as u16),
+        None => None,
+    }
 }
 
 // How many bytes stand before the first comma.

@@ -12,6 +12,6 @@ pub returns-in_default : goal.returns-in_default
 returns-in_default c =
     no_extended_none IsAddress (IsNumber 1 65535) 58 apart_address c.args.text.now c.address_reach-address.result c.address_reach-address.ensures c.if-address-text.false c.in_default.ensures
 
-pub returns-in_default-read_number : goal.returns-in_default-read_number
-returns-in_default-read_number c =
-    no_extended_part IsAddress (IsNumber 1 65535) 58 apart_address c.args.text.now c.in-Some.digits.now c.address_reach-address.result c.address_reach-address.ensures c.if-address-text.false c.in-Some.ensures.1 (λ w. c.in_default-read_number.ensures w.0 w.1 w.2 w.3)
+pub returns-in_default-read_port : goal.returns-in_default-read_port
+returns-in_default-read_port c =
+    no_extended_part IsAddress (IsNumber 1 65535) 58 apart_address c.args.text.now c.in-Some.digits.now c.address_reach-address.result c.address_reach-address.ensures c.if-address-text.false c.in-Some.ensures.1 (λ w. c.in_default-read_port.ensures w.0 w.1 w.2 w.3)
