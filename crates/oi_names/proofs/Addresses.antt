@@ -1,12 +1,12 @@
 -- How far a text goes in the addresses and numbers of portals.
-use Rattle.std.proofs.Common.{◌≡◌, ◌<◌, ◌≤◌, ◌+◌, ◌-◌, ◌^◌, ◌∙◌, ◌⊎◌, inl, inr, ℕ, suc, zero, List, [], ◌∷◌, ◌++◌, length, take, drop, subst, sym, ap, refl, arith, length-append, append-nil, Bool, true, false, ltb, get_or}
+use Rattle.std.proofs.Common.{◌≡◌, ◌<◌, ◌≤◌, ◌+◌, ◌-◌, ◌^◌, ℕ, suc, zero, List, [], ◌∷◌, ◌++◌, length, take, subst, sym, ap, refl, arith, length-append, true, false, ltb, get_or}
 use Rattle.std.specs.Fmt.{decimal}
 use Rattle.std.proofs.lemmas.Bool.{ltb-true}
 use Rattle.std.proofs.lemmas.Bool.Decides.{nat_tests}
 use Rattle.std.proofs.lemmas.Fmt.{decimal_nonempty}
 use Rattle.std.proofs.lemmas.List.{length-take-le}
 use Rattle.oi_base.specs.Decimal.{IsNumber}
-use Rattle.oi_base.specs.Fronts.{Begins, IsPlace}
+use Rattle.oi_base.specs.Fronts.{IsPlace}
 use Rattle.oi_names.specs.Grammars.{IsJoined}
 use Rattle.oi_names.specs.Portals.{IsDotted, IsEmpty}
 use Rattle.oi_names.specs.Reaches.{IsReach}

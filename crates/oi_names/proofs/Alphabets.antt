@@ -1,14 +1,13 @@
 -- Bytes that no word of a grammar has.
-use Rattle.std.proofs.Common.{◌≡◌, ◌<◌, ◌≤◌, ◌+◌, ◌-◌, ◌/◌, ◌%◌, ◌^◌, ◌∙◌, ◌⊎◌, inl, inr, ℕ, suc, zero, List, [], ◌∷◌, ◌++◌, length, subst, sym, ap, refl, arith, length-append, append-nil, append_assoc, Bool, true, false, ◌==◌, not, ◌&&◌}
+use Rattle.std.proofs.Common.{◌≡◌, ◌<◌, ◌+◌, ◌%◌, ◌^◌, ◌∙◌, inl, inr, ℕ, suc, zero, List, [], ◌∷◌, ◌++◌, length, subst, sym, ap, refl, arith, length-append, append_assoc, Bool, true, false, ◌==◌, not}
 use Rattle.std.specs.List.{list_all}
 use Rattle.std.specs.Fmt.{decimal}
 use Rattle.std.proofs.lemmas.Bool.Decides.{nat_tests}
 use Rattle.std.proofs.lemmas.Fmt.{decimal_by_steps, decimal_nonempty}
 use Rattle.std.proofs.lemmas.List.Folds.{list_all-append}
 use Rattle.oi_base.specs.Decimal.{IsNumber}
-use Rattle.oi_names.specs.Grammars.{IsJoined, IsLed, IsRun}
-use Rattle.oi_names.specs.Portals.{IsAddress, IsBracketed, IsDotted, IsEmpty, IsEndpoint, is_inner}
-use Rattle.oi_names.proofs.Lists.{split_same}
+use Rattle.oi_names.specs.Grammars.{IsRun}
+use Rattle.oi_names.specs.Portals.{IsAddress, IsBracketed, IsDotted, IsEndpoint, is_inner}
 use Rattle.oi_names.proofs.Places.{Apart, cut}
 use Rattle.oi_names.proofs.Runs.{and_both, and_first, and_second}
 

@@ -1,5 +1,5 @@
 -- The fault of a text that is no word.
-use Rattle.std.proofs.Common.{◌≡◌, ℕ, List, length, false, true, sym, subst, refl}
+use Rattle.std.proofs.Common.{◌≡◌, ℕ, List, sym, subst, refl}
 use Rattle.oi_base.specs.Counts.{told}
 use Rattle.oi_names.specs.Names.{IsFault}
 use Rattle.oi_names.specs.Reaches.{IsReach}

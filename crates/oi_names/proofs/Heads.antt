@@ -1,9 +1,9 @@
 -- A fixed text at the beginning of another.
-use Rattle.std.proofs.Common.{◌≡◌, ◌<◌, ◌≤◌, ◌+◌, ◌-◌, ◌∙◌, ◌⊎◌, inl, inr, ℕ, suc, zero, List, [], ◌∷◌, ◌++◌, length, take, drop, zip, subst, sym, ap, refl, arith, length-append, append-nil, append_assoc, Bool, true, false, ◌==◌, cond}
+use Rattle.std.proofs.Common.{◌≡◌, ◌<◌, ◌≤◌, ◌+◌, ◌∙◌, ℕ, suc, zero, List, [], ◌∷◌, ◌++◌, length, take, drop, zip, subst, sym, ap, refl, arith, length-append, append_assoc, Bool, true, false, ◌==◌, cond}
 use Rattle.std.specs.List.{prefix_len}
 use Rattle.std.proofs.lemmas.Bool.Decides.{nat_tests}
 use Rattle.std.proofs.lemmas.List.{length-take-le, take-append-drop, take_all}
-use Rattle.oi_base.specs.Fronts.{Begins, IsPlace}
+use Rattle.oi_base.specs.Fronts.{Begins}
 use Rattle.oi_names.specs.Grammars.{IsLed}
 use Rattle.oi_names.specs.Reaches.{IsReach}
 use Rattle.oi_names.specs.declared.reach.Reach.{Reach}

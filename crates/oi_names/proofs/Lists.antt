@@ -1,6 +1,5 @@
 -- Two ways to take a list apart.
-use Rattle.std.proofs.Common.{◌≡◌, ◌<◌, ◌≤◌, ◌+◌, ◌-◌, ◌∙◌, ◌⊎◌, inl, inr, ℕ, suc, zero, List, [], ◌∷◌, ◌++◌, length, take, drop, subst, sym, ap, refl, arith, length-append, append-nil, append_assoc, get_or}
-use Rattle.std.proofs.lemmas.List.{take-append-drop, length-take-le, take_at, take_all, drop_at, get_or_at}
+use Rattle.std.proofs.Common.{◌≡◌, ◌<◌, ◌≤◌, ◌+◌, ℕ, suc, List, [], ◌∷◌, ◌++◌, length, take, sym, ap, refl, arith}
 
 pub split_same : (x y s t : List ℕ) → length x ≡ length y → x ++ s ≡ y ++ t → (x ≡ y) × (s ≡ t)
 split_same [] [] s t l e = (refl, e)

@@ -1,7 +1,7 @@
 -- How far a text goes in a grammar that is put together from others.
-use Rattle.std.proofs.Common.{◌≡◌, ◌<◌, ◌≤◌, ◌+◌, ◌-◌, ◌∙◌, ◌⊎◌, inl, inr, ℕ, suc, zero, List, [], ◌∷◌, ◌++◌, length, take, drop, subst, sym, ap, refl, arith, length-append, append-nil, append_assoc, get_or, Bool, true, false, ◌||◌, not, ltb, cond}
+use Rattle.std.proofs.Common.{◌≡◌, ◌<◌, ◌≤◌, ◌+◌, ◌-◌, ◌∙◌, ◌⊎◌, inl, inr, ℕ, List, [], ◌∷◌, ◌++◌, length, take, drop, subst, sym, ap, refl, arith, length-append, append-nil, append_assoc, get_or, Bool, true, false, ◌||◌, not, ltb, cond}
 use Rattle.std.proofs.lemmas.Bool.{cases_lt, ltb-true, ltb-false}
-use Rattle.std.proofs.lemmas.List.{take-append-drop, length-take-le, take_at, take_all, drop_at, get_or_at}
+use Rattle.std.proofs.lemmas.List.{take-append-drop, length-take-le, take_at, take_all, get_or_at}
 use Rattle.oi_base.specs.Fronts.{Begins, IsPlace}
 use Rattle.oi_names.specs.Grammars.{IsEither, IsExtended, IsJoined, IsLed}
 use Rattle.oi_names.specs.Reaches.{IsReach, further}

@@ -1,16 +1,14 @@
 -- Each text of a portal has one reading, and what is written reads as it was given.
-use Rattle.std.proofs.Common.{◌≡◌, ◌<◌, ◌≤◌, ◌+◌, ◌-◌, ◌/◌, ◌%◌, ◌^◌, ◌∙◌, ◌⊎◌, inl, inr, ℕ, suc, zero, Option, Some, None, List, [], ◌∷◌, ◌++◌, length, map, subst, sym, ap, refl, arith, length-append, append-nil, append_assoc, Bool, true, false, ◌&&◌, leb}
+use Rattle.std.proofs.Common.{◌≡◌, ◌<◌, ◌≤◌, ◌+◌, ◌%◌, ◌∙◌, inl, inr, ℕ, suc, zero, Option, Some, None, List, [], ◌∷◌, ◌++◌, subst, sym, ap, refl, arith, true, leb}
 use Rattle.std.specs.List.{list_all}
 use Rattle.std.specs.Fmt.{decimal}
-use Rattle.std.proofs.lemmas.Bool.{leb-true}
 use Rattle.std.proofs.lemmas.Bool.Decides.{nat_tests}
 use Rattle.std.proofs.lemmas.Fmt.{decimal_by_steps, decimal_injective}
 use Rattle.std.proofs.lemmas.List.{length-map, map-append}
 use Rattle.std.proofs.lemmas.List.Folds.{list_all-append}
 use Rattle.oi_base.specs.Decimal.{IsNumber}
-use Rattle.oi_names.specs.Grammars.{IsRun}
-use Rattle.oi_names.specs.Portals.{HasPort, HasTag, IsAddress, IsBracketed, IsDotted, IsEndpoint, IsPortal, IsPortalOf, IsSpelled, is_inner, lower_byte, lower_case, portal_text}
-use Rattle.oi_names.proofs.Alphabets.{apart_address, apart_endpoint, lacks_endpoint, lacks_not, Lacks}
+use Rattle.oi_names.specs.Portals.{HasPort, HasTag, IsAddress, IsBracketed, IsDotted, IsEndpoint, IsPortal, IsPortalOf, is_inner, lower_byte, lower_case, portal_text}
+use Rattle.oi_names.proofs.Alphabets.{apart_address, apart_endpoint}
 use Rattle.oi_names.proofs.Places.{cut}
 use Rattle.oi_names.proofs.Runs.{and_both, and_first, and_second}
 

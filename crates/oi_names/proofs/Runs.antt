@@ -1,12 +1,12 @@
 -- Runs of bytes that pass a test.
-use Rattle.std.proofs.Common.{◌≡◌, ◌<◌, ◌≤◌, ◌+◌, ◌-◌, ◌∙◌, ◌⊎◌, inl, inr, ℕ, suc, zero, min, List, [], ◌∷◌, ◌++◌, length, take, drop, replicate, subst, sym, ap, refl, arith, length-append, append-nil, append_assoc, Bool, true, false, ◌&&◌, leb, cond}
+use Rattle.std.proofs.Common.{◌≡◌, ◌<◌, ◌≤◌, ◌+◌, ◌-◌, ◌∙◌, ℕ, suc, zero, min, List, [], ◌∷◌, ◌++◌, length, take, replicate, sym, refl, arith, length-append, Bool, true, false, ◌&&◌, leb, cond}
 use Rattle.std.specs.List.{list_all, prefix_len}
 use Rattle.std.proofs.lemmas.Bool.{leb-true}
 use Rattle.std.proofs.lemmas.Bool.Decides.{nat_tests}
 use Rattle.std.proofs.lemmas.List.{length-take-le, length-replicate}
 use Rattle.std.proofs.lemmas.List.Folds.{list_all-append}
 use Rattle.std.proofs.lemmas.List.Sums.{prefix_len-le-length}
-use Rattle.oi_base.specs.Fronts.{Begins, IsPlace}
+use Rattle.oi_base.specs.Fronts.{Begins}
 use Rattle.oi_names.specs.Grammars.{IsRun}
 use Rattle.oi_names.specs.Reaches.{IsReach}
 

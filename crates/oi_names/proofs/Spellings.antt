@@ -1,5 +1,5 @@
 -- The texts of portals, taken apart at the first comma.
-use Rattle.std.proofs.Common.{◌≡◌, ◌<◌, ◌≤◌, ◌+◌, ◌-◌, ◌^◌, ◌∙◌, ◌⊎◌, inl, inr, ℕ, suc, zero, Option, Some, None, List, [], ◌∷◌, ◌++◌, length, take, drop, subst, sym, ap, refl, arith, length-append, append-nil, append_assoc, Bool, true, false, not, ◌==◌, ◌&&◌, cond, get_or}
+use Rattle.std.proofs.Common.{◌≡◌, ◌<◌, ◌≤◌, ◌+◌, ◌∙◌, ◌⊎◌, inl, inr, ℕ, suc, Option, List, [], ◌∷◌, ◌++◌, length, take, drop, subst, sym, ap, refl, arith, length-append, append_assoc, Bool, true, false, not, ◌==◌, ◌&&◌, cond, get_or}
 use Rattle.std.specs.List.{list_all, prefix_len}
 use Rattle.std.proofs.lemmas.Bool.Decides.{nat_tests}
 use Rattle.std.proofs.lemmas.List.{drop_at, drop_more, length-take-le, take-append-drop, take-take, take_all, take_at}

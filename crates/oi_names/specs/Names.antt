@@ -1,5 +1,5 @@
 -- Names of initiators and targets (RFC 7143, section 4.2.7).
-use Rattle.std.specs.Prelude.{◌≡◌, ◌≤◌, ℕ, Bool, ◌&&◌, ◌||◌, ◌==◌, nat_le, List, [], ◌∷◌, length, codes}
+use Rattle.std.specs.Prelude.{◌≡◌, ℕ, Bool, ◌&&◌, ◌||◌, ◌==◌, nat_le, List, [], ◌∷◌}
 use Rattle.oi_base.specs.Counts.{told}
 use Rattle.oi_base.specs.Fronts.{IsPlace}
 use Rattle.oi_names.specs.Grammars.{IsEither, IsLed, IsRun}

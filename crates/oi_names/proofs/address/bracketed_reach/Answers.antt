@@ -1,8 +1,8 @@
-use Rattle.std.proofs.Common.{◌≡◌, List, ℕ, [], ◌∷◌, ◌++◌, refl, arith, subst, sym, ◌∙◌}
-use Rattle.oi_names.specs.Grammars.{IsJoined, IsLed, IsRun}
-use Rattle.oi_names.specs.Portals.{IsBracketed, IsEmpty, is_inner}
+use Rattle.std.proofs.Common.{◌≡◌, List, ℕ, [], ◌∷◌, refl, arith, subst, sym, ◌∙◌}
+use Rattle.oi_names.specs.Grammars.{IsJoined, IsRun}
+use Rattle.oi_names.specs.Portals.{IsEmpty, is_inner}
 use Rattle.oi_names.specs.Reaches.{IsReach}
-use Rattle.oi_names.proofs.Heads.{led_here, led_at, shared}
+use Rattle.oi_names.proofs.Heads.{led_here, led_at}
 use Rattle.oi_names.proofs.address.bracketed_reach.Goals as goal
 
 pub returns-then-bracket-lt1 : goal.returns-then-bracket-lt1

@@ -1,4 +1,4 @@
-use Rattle.std.proofs.Common.{◌≡◌, List, ℕ, sym, subst}
+use Rattle.std.proofs.Common.{sym, subst}
 use Rattle.oi_names.specs.Grammars.{IsEither, IsLed}
 use Rattle.oi_names.specs.Names.{IsName, IsNameRest, iqn, eui, naa}
 use Rattle.oi_names.specs.Reaches.{IsReach}

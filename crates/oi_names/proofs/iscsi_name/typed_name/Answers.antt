@@ -1,4 +1,4 @@
-use Rattle.std.proofs.Common.{◌≡◌, List, ℕ, [], ◌∷◌, refl, arith, subst}
+use Rattle.std.proofs.Common.{List, ℕ, [], ◌∷◌, refl, arith, subst}
 use Rattle.oi_names.specs.Names.{IsNameRest}
 use Rattle.oi_names.specs.Reaches.{IsReach}
 use Rattle.oi_names.proofs.Heads.{led_here, led_at, shared_within}

@@ -1,4 +1,3 @@
-use Rattle.std.proofs.Common.{◌≡◌, length, arith}
 use Rattle.oi_base.specs.Decimal.{IsNumber}
 use Rattle.oi_names.specs.Portals.{IsAddress}
 use Rattle.oi_names.proofs.Alphabets.{apart_address}

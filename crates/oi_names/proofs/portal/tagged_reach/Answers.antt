@@ -1,4 +1,4 @@
-use Rattle.std.proofs.Common.{◌+◌, ◌∷◌, [], refl, arith}
+use Rattle.std.proofs.Common.{◌+◌, refl, arith}
 use Rattle.std.specs.Fmt.{decimal}
 use Rattle.oi_base.specs.Decimal.{IsNumber}
 use Rattle.oi_names.specs.Portals.{IsEndpoint}

@@ -1,4 +1,4 @@
-use Rattle.std.proofs.Common.{◌≡◌, List, ℕ, sym, subst, refl, arith}
+use Rattle.std.proofs.Common.{sym, subst, arith}
 use Rattle.oi_names.specs.Names.{IsName}
 use Rattle.oi_names.proofs.Faults.{fault_at}
 use Rattle.oi_names.proofs.Places.{no_word_long, no_word_short, not_not, reach_whole}
