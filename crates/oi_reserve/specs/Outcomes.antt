@@ -1,5 +1,5 @@
 -- What becomes of PERSISTENT RESERVE OUT, row by row: the answer and the table afterwards (SPC-4, section 5.13).
-use Rattle.std.specs.Prelude.{ℕ, ◌+◌, Bool, true, false, not, ◌&&◌, ◌||◌, Option, Some, None, is_some, Result, Ok, Err, List, [], ◌∷◌, ◌++◌, bytes_eq, length, map, filter, ◌==◌, nat_lt, if◌then◌else◌}
+use Rattle.std.specs.Prelude.{ℕ, not, ◌&&◌, ◌||◌, Option, Some, None, is_some, Result, Ok, Err, List, [], ◌∷◌, ◌++◌, bytes_eq, length, map, filter, ◌==◌, nat_lt, if◌then◌else◌}
 use Rattle.oi_reserve.specs.Orders.{bad_parameter, no_room, order_of}
 use Rattle.oi_reserve.specs.Tables.{Table, grown, has_key, is_key, key_of, key_or_zero, most_registered}
 use Rattle.oi_reserve.specs.declared.answer.ReserveAnswer.{ReserveAnswer}

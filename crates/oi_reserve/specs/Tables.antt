@@ -1,5 +1,5 @@
 -- The reservations of a logical unit: who is registered with which key, who holds, and the generation.
-use Rattle.std.specs.Prelude.{◌≡◌, ℕ, ◌+◌, ◌%◌, ◌^◌, ◌≤◌, Bool, false, not, Option, Some, None, option_map, unwrap_or, List, [], bytes_eq, length, ◌==◌, if◌then◌else◌}
+use Rattle.std.specs.Prelude.{ℕ, ◌+◌, ◌%◌, ◌^◌, Bool, false, Option, Some, None, option_map, unwrap_or, List, [], bytes_eq, ◌==◌}
 use Rattle.std.specs.List.{find, list_any}
 use Rattle.oi_reserve.specs.declared.entry.Holder.{Holder}
 use Rattle.oi_reserve.specs.declared.entry.Registration.{Registration}

@@ -15,6 +15,5 @@ mod tests;
 
 pub use access::{Wish, wish_of};
 pub use answer::ReserveAnswer;
-pub use entry::{Holder, Nexus, Registration};
-pub use order::{Action, Order};
+pub use entry::Nexus;
 pub use table::Reservations;

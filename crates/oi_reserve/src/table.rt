@@ -7,9 +7,9 @@ ghost use Rattle.oi_reserve.specs.Tables.{empty_table};
 use crate::access::{Wish, form_allows, is_read};
 use crate::answer::ReserveAnswer;
 use crate::entry::{Holder, Nexus, Registration};
+use crate::holder::{drop_holder, release_of, take_over};
 use crate::order::{Action, BAD_FIELD, BAD_PARAMETER, Order, read_order};
 use crate::registered::{has_key, is_owner, key_of, key_or_zero, remove, remove_others, set_key};
-use crate::holder::{drop_holder, release_of, take_over};
 use crate::report::{holder_report, keys_report, send};
 use oi_base::{Blob, NoMemory};
 use std::alloc::Global;
@@ -111,12 +111,7 @@ impl Reservations {
         }
     }
 
-    fn act(
-        &mut self,
-        alloc: Global,
-        nexus: &[u8],
-        order: &Order,
-    ) -> Result<ReserveAnswer, NoMemory>
+    fn act(&mut self, alloc: Global, nexus: &[u8], order: &Order) -> Result<ReserveAnswer, NoMemory>
         ensures answer { IfOk result (λ a. a ≡ (done_by order.now.action self.old nexus.now order.now).answer) }
         ensures table { OnOk result (self.new ≡ (done_by order.now.action self.old nexus.now order.now).table) }
         ensures same { OnErr result (self.new ≡ self.old) }
@@ -160,12 +155,7 @@ impl Reservations {
         }
     }
 
-    fn register(
-        &mut self,
-        alloc: Global,
-        nexus: &[u8],
-        key: u64,
-    ) -> Result<ReserveAnswer, NoMemory>
+    fn register(&mut self, alloc: Global, nexus: &[u8], key: u64) -> Result<ReserveAnswer, NoMemory>
         ensures answer { IfOk result (λ a. a ≡ (registered_as self.old nexus.now key).answer) }
         ensures table { OnOk result (self.new ≡ (registered_as self.old nexus.now key).table) }
         ensures same { OnErr result (self.new ≡ self.old) }
@@ -190,24 +180,17 @@ impl Reservations {
         Ok(ReserveAnswer::Good)
     }
 
-    fn reserve(
-        &mut self,
-        alloc: Global,
-        nexus: &[u8],
-        form: u8,
-    ) -> Result<ReserveAnswer, NoMemory>
+    fn reserve(&mut self, alloc: Global, nexus: &[u8], form: u8) -> Result<ReserveAnswer, NoMemory>
         ensures answer { IfOk result (λ a. a ≡ (reserved_by self.old nexus.now form self.old.holder).answer) }
         ensures table { OnOk result (self.new ≡ (reserved_by self.old nexus.now form self.old.holder).table) }
         ensures same { OnErr result (self.new ≡ self.old) }
     {
         if let Some(holder) = &self.holder {
-            return Ok(
-                if holder.nexus.as_slice() == nexus && holder.form == form {
-                    ReserveAnswer::Good
-                } else {
-                    ReserveAnswer::Conflict
-                },
-            );
+            return Ok(if holder.nexus.as_slice() == nexus && holder.form == form {
+                ReserveAnswer::Good
+            } else {
+                ReserveAnswer::Conflict
+            });
         }
         let nexus = Blob::from_slice(alloc, nexus)?;
         self.holder = Some(Holder { nexus, form });
