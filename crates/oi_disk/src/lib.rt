@@ -1,0 +1,14 @@
+//! A disk of blocks in memory, which answers SCSI commands one after another.
+#![tactic(auto)]
+
+mod answer;
+mod blocks;
+mod command;
+mod disk;
+mod serve;
+#[cfg(test)]
+mod tests;
+
+pub use answer::{DiskAnswer, good, illegal_request};
+pub use command::{Command, read_command};
+pub use disk::FlatDisk;
