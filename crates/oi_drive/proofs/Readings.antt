@@ -89,3 +89,77 @@ rest_text_more room less w p m count =
             ∙ append_assoc (feed_text w p) (feed_text (feed w p) m) (input_end_text (feed (feed w p) m))))
         (ap (λ (z : List ℕ). feed_text w z) (take_behind p m room less count) ∙ feed_text-append w p (take less m))
     ∙ push_in (nat_le (length m) less) (feed_text w p) (feed_text (feed w p) m ++ input_end_text (feed (feed w p) m)) (feed_text (feed w p) (take less m))
+
+-- what is left behind a piece
+pub record Behind (piece : List ℕ) (left : Option (List ℕ)) (bytes : List ℕ) : Type 0 where
+  pub more : List ℕ
+  pub is : left ≡ Some more
+  pub whole : bytes ≡ piece ++ more
+
+pub behind_piece : (piece : List ℕ) (left0 left : Option (List ℕ)) (bytes : List ℕ) → left0 ≡ in_front piece left → left0 ≡ Some bytes → Behind piece left bytes
+behind_piece piece left0 None bytes moved is = absurd cc
+behind_piece piece left0 (Some more) bytes moved is = let same : bytes ≡ piece ++ more = cc in record { more = more; is = refl; whole = same }
+
+-- the input came to its stop with a piece
+pub finishes_stopped : (room less : ℕ) (left0 left : Option (List ℕ)) (w0 w : World) (held0 held : Option (List ℕ)) (piece : List ℕ) → left0 ≡ in_front piece left → length piece + less ≡ room
+  → w ≡ feed w0 piece → is_some w.stop ≡ true → held ≡ behind held0 (feed_text w0 piece) → Finishes room left0 w0 w held0 held
+finishes_stopped room less left0 left w0 w held0 held piece moved count goes stopped wrote = record {
+  world = λ bytes is.
+    let b = behind_piece piece left0 left bytes moved is in
+    sym (ap (λ (z : List ℕ). rest_world room w0 z) b.whole ∙ (rest_world_more room less w0 piece b.more count
+      ∙ (ap (λ (z : World). rest_world less z b.more) (sym goes) ∙ rest_world_stopped less w b.more stopped)));
+  text = λ bytes is.
+    let b = behind_piece piece left0 left bytes moved is in
+    wrote ∙ ap (λ (z : List ℕ). behind held0 z) (sym (ap (λ (z : List ℕ). rest_text room w0 z) b.whole ∙ (rest_text_more room less w0 piece b.more count
+      ∙ (ap (λ (z : World). feed_text w0 piece ++ rest_text less z b.more) (sym goes)
+      ∙ (ap (λ (z : List ℕ). feed_text w0 piece ++ z) (rest_text_stopped less w b.more stopped) ∙ append-nil (feed_text w0 piece))))))
+}
+
+-- what is left leads to what the whole input leads to
+pub record Rest (limit room : ℕ) (left : Option (List ℕ)) (w0 w : World) (held0 held : Option (List ℕ)) (bytes : List ℕ) : Type 0 where
+  pub more : List ℕ
+  pub is : left ≡ Some more
+  pub world : rest_world room w more ≡ rest_world limit w0 bytes
+  pub text : behind held (rest_text room w more) ≡ behind held0 (rest_text limit w0 bytes)
+
+pub record IsGoing (limit room : ℕ) (left0 left : Option (List ℕ)) (w0 w : World) (held0 held : Option (List ℕ)) (source0 source sink0 sink : ℕ) : Type 0 where
+  pub rest : (bytes : List ℕ) → left0 ≡ Some bytes → Rest limit room left w0 w held0 held bytes
+  pub source_same : source ≡ source0
+  pub sink_same : sink ≡ sink0
+
+pub going_first : (limit : ℕ) (left : Option (List ℕ)) (w : World) (held : Option (List ℕ)) (source sink : ℕ) → IsGoing limit limit left left w w held held source source sink sink
+going_first limit left w held source sink = record { rest = λ bytes is. record { more = bytes; is = is; world = refl; text = refl }; source_same = refl; sink_same = refl }
+
+pub going_more : (limit room less : ℕ) (left0 left left1 : Option (List ℕ)) (w0 w w1 : World) (held0 held held1 : Option (List ℕ)) (source0 source source1 sink0 sink sink1 : ℕ)
+  → IsGoing limit room left0 left w0 w held0 held source0 source sink0 sink → GoesOn room less left left1 w w1 held held1 → source1 ≡ source → sink1 ≡ sink
+  → IsGoing limit less left0 left1 w0 w1 held0 held1 source0 source1 sink0 sink1
+going_more limit room less left0 left left1 w0 w w1 held0 held held1 source0 source source1 sink0 sink sink1 r go same_source same_sink = record {
+  rest = λ bytes is.
+    let old = r.rest bytes is in
+    let b = behind_piece go.piece left left1 old.more go.moved old.is in
+    record {
+      more = b.more;
+      is = b.is;
+      world = ap (λ (z : World). rest_world less z b.more) go.world
+        ∙ (sym (rest_world_more room less w go.piece b.more go.count) ∙ (ap (λ (z : List ℕ). rest_world room w z) (sym b.whole) ∙ old.world));
+      text = ap (λ (z : World). behind held1 (rest_text less z b.more)) go.world
+        ∙ (ap (λ (z : Option (List ℕ)). behind z (rest_text less (feed w go.piece) b.more)) go.text
+        ∙ (behind-append held (feed_text w go.piece) (rest_text less (feed w go.piece) b.more)
+        ∙ (ap (λ (z : List ℕ). behind held z) (sym (rest_text_more room less w go.piece b.more go.count))
+        ∙ (ap (λ (z : List ℕ). behind held (rest_text room w z)) (sym b.whole) ∙ old.text))))
+    };
+  source_same = same_source ∙ r.source_same;
+  sink_same = same_sink ∙ r.sink_same
+}
+
+pub going_end : (limit room : ℕ) (left0 left : Option (List ℕ)) (w0 w w1 : World) (held0 held held1 : Option (List ℕ)) (source0 source sink0 sink : ℕ)
+  → IsGoing limit room left0 left w0 w held0 held source0 source sink0 sink → Finishes room left w w1 held held1 → Finishes limit left0 w0 w1 held0 held1
+going_end limit room left0 left w0 w w1 held0 held held1 source0 source sink0 sink r fin = record {
+  world = λ bytes is. let old = r.rest bytes is in fin.world old.more old.is ∙ old.world;
+  text = λ bytes is. let old = r.rest bytes is in fin.text old.more old.is ∙ old.text
+}
+
+pub breaks_by_from : (e : Broken) (source0 source source1 sink0 sink sink1 : ℕ) → source ≡ source0 → sink ≡ sink0 → BreaksBy e source source1 sink sink1 → BreaksBy e source0 source1 sink0 sink1
+breaks_by_from Memory source0 source source1 sink0 sink sink1 a b p = (p.0 ∙ a, p.1 ∙ b)
+breaks_by_from Read source0 source source1 sink0 sink sink1 a b p = (subst (λ (k : ℕ). Rose k source1) a p.0, p.1 ∙ b)
+breaks_by_from Write source0 source source1 sink0 sink sink1 a b p = (subst (λ (k : ℕ). Rose k sink1) b p.0, p.1 ∙ a)

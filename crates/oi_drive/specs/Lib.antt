@@ -1,4 +1,5 @@
 pub mod Acts
+pub mod Endings
 pub mod Inputs
 pub mod Pdus
 pub mod Runs

@@ -1,6 +1,6 @@
 ghost use Rattle.std.specs.Prelude.{◌≡◌, ◌++◌, ◌∷◌, [], OnOk};
 ghost use Rattle.oi_drive.specs.Runs.{seen};
-ghost use Rattle.oi_drive.specs.Worlds.{byte_text, feed, feed_byte, feed_text, input_end, input_end_text, line_step, line_text};
+ghost use Rattle.oi_drive.specs.Worlds.{byte_text, feed, feed_byte, feed_text, input_end, input_end_text, line_step, line_text, stopped_at_end};
 ghost use Rattle.oi_drive.specs.Writes.{Prints};
 
 use crate::acting::{bad, line_step};
@@ -62,7 +62,16 @@ pub fn take_piece<K: Sink>(run: &mut Runner, sink: &mut K, piece: &[u8]) -> Resu
     Ok(())
 }
 
+fn stop_at_end(run: &mut Runner)
+    ensures { seen run.new ≡ stopped_at_end (seen run.old) }
+{
+    if run.stop.is_none() {
+        run.stop = Some(Stop::InputEnd);
+    }
+}
+
 /// The end of the input: a last line may lack its line feed.
+#[tactic(auto, using(crate::proofs::Outputs::behind_none))]
 pub fn end_of_input<K: Sink>(run: &mut Runner, sink: &mut K) -> Result<(), Broken>
     ensures world { OnOk result (seen run.new ≡ input_end (seen run.old)) }
     ensures prints { Prints result (input_end_text (seen run.old)) (K.held sink.old) (K.held sink.new) (K.faults sink.old) (K.faults sink.new) }
@@ -70,11 +79,15 @@ pub fn end_of_input<K: Sink>(run: &mut Runner, sink: &mut K) -> Result<(), Broke
     if run.stop.is_some() {
         return Ok(());
     }
-    if !run.part.is_empty() {
-        end_line(run, sink)?;
+    if run.part.is_empty() {
+        stop_at_end(run);
+        return Ok(());
     }
-    if run.stop.is_none() {
-        run.stop = Some(Stop::InputEnd);
+    match end_line(run, sink) {
+        Ok(()) => {
+            stop_at_end(run);
+            Ok(())
+        }
+        Err(broken) => Err(broken),
     }
-    Ok(())
 }

@@ -1,30 +1,29 @@
-use Rattle.std.proofs.Common.{rules, ◌≡◌, ◌≤◌, ◌<◌, IfOk, length, take, vec_len, ℕ, ◌+◌, ◌-◌, ◌*◌, ◌/◌, ◌%◌, Bool, true, false, nat_eq, nat_lt, List, [], ◌∷◌, ◌++◌, slice_index_or, slice_set, bit_and, bit_or, Fits, w8, w32, w64, Bor, MutBor}
+use Rattle.std.proofs.Common.{◌≡◌, ◌∙◌, ℕ, Option, Some, None, Ok, subst, arith}
 use Rattle.oi_base.specs.Limits.{input_limit}
-use Rattle.oi_drive.specs.Inputs.{ReadsAll, ReadsOnce}
+use Rattle.oi_drive.proofs.Readings.{going_end, going_more}
+use Rattle.oi_drive.specs.Inputs.{ReadsOnce}
 use Rattle.oi_drive.specs.Runs.{seen}
-use Rattle.oi_drive.specs.Worlds.{input_over}
 use Rattle.oi_drive.proofs.reading.read_input.Goals as goal
 
--- src/reading.rt:74:5
-pub loop-less-init : goal.loop-less-init
-loop-less-init g c = ?
-
--- src/reading.rt:75:15
-pub read_once-requires : goal.read_once-requires
-read_once-requires g c = ?
-
--- src/reading.rt:74:5
-pub loop-less-smaller : goal.loop-less-smaller
-loop-less-smaller g c = ?
-
--- src/reading.rt:74:5
 pub loop-less-preserved : goal.loop-less-preserved
-loop-less-preserved g c = ?
+loop-less-preserved g c =
+    let once = subst (λ (o : Option ℕ). ReadsOnce (Ok o) c.loop-less.room (g.S.Source.left c.loop-less.source) (g.S.Source.left c.read_once.new.source) (seen c.loop-less.run) (seen c.read_once.new.run)
+            (g.K.Sink.held c.loop-less.sink) (g.K.Sink.held c.read_once.new.sink) (g.S.Source.faults c.loop-less.source) (g.S.Source.faults c.read_once.new.source)
+            (g.K.Sink.faults c.loop-less.sink) (g.K.Sink.faults c.read_once.new.sink)) c.in-Ok-Some.field-0-is c.in-Ok-Some.ensures in
+    (c.loop-less.invariant.0,
+        going_more input_limit c.loop-less.room c.in-Ok-Some.less (g.S.Source.left c.args.source.now) (g.S.Source.left c.loop-less.source) (g.S.Source.left c.read_once.new.source)
+            (seen c.args.run.now) (seen c.loop-less.run) (seen c.read_once.new.run) (g.K.Sink.held c.args.sink.now) (g.K.Sink.held c.loop-less.sink) (g.K.Sink.held c.read_once.new.sink)
+            (g.S.Source.faults c.args.source.now) (g.S.Source.faults c.loop-less.source) (g.S.Source.faults c.read_once.new.source)
+            (g.K.Sink.faults c.args.sink.now) (g.K.Sink.faults c.loop-less.sink) (g.K.Sink.faults c.read_once.new.sink) c.loop-less.invariant.1 once.0 once.1 once.2)
 
--- src/reading.rt:77:25
 pub returns-in-Ok-None : goal.returns-in-Ok-None
-returns-in-Ok-None g c = ?
-
--- src/reading.rt:78:28
-pub returns-in-Err : goal.returns-in-Err
-returns-in-Err g c = ?
+returns-in-Ok-None g c =
+    let once = subst (λ (o : Option ℕ). ReadsOnce (Ok o) c.loop-less.room (g.S.Source.left c.loop-less.source) (g.S.Source.left c.read_once.new.source) (seen c.loop-less.run) (seen c.read_once.new.run)
+            (g.K.Sink.held c.loop-less.sink) (g.K.Sink.held c.read_once.new.sink) (g.S.Source.faults c.loop-less.source) (g.S.Source.faults c.read_once.new.source)
+            (g.K.Sink.faults c.loop-less.sink) (g.K.Sink.faults c.read_once.new.sink)) c.in-Ok-None.field-0-is c.in-Ok-None.ensures in
+    let r = c.loop-less.invariant.1 in
+    (going_end input_limit c.loop-less.room (g.S.Source.left c.args.source.now) (g.S.Source.left c.loop-less.source)
+            (seen c.args.run.now) (seen c.loop-less.run) (seen c.read_once.new.run) (g.K.Sink.held c.args.sink.now) (g.K.Sink.held c.loop-less.sink) (g.K.Sink.held c.read_once.new.sink)
+            (g.S.Source.faults c.args.source.now) (g.S.Source.faults c.loop-less.source) (g.K.Sink.faults c.args.sink.now) (g.K.Sink.faults c.loop-less.sink) r once.0,
+        once.1 ∙ r.source_same,
+        once.2 ∙ r.sink_same)

@@ -1,0 +1,80 @@
+-- What a run of `drive` comes to: why it ended, its status, its last text.
+use Rattle.std.specs.Prelude.{◌≡◌, ℕ, Bool, true, false, ◌++◌, List, [], ◌∷◌, Option, Some, None, pos}
+use Rattle.oi_base.specs.Counts.{Rose}
+use Rattle.oi_base.specs.Limits.{input_limit}
+use Rattle.oi_drive.specs.Worlds.{World, delivered, input_text, input_world, outcomes}
+use Rattle.oi_drive.specs.declared.runner.Stop.{Stop}
+use Rattle.oi_drive.specs.declared.runner.Stop.TheVariants.{Asked, InputEnd, BadLine}
+use Rattle.oi_history.specs.Histories.{snapshot}
+use Rattle.oi_history.specs.Legality.{IsLegal}
+use Rattle.oi_history.specs.Phases.{is_ended}
+use Rattle.oi_history.specs.declared.config.SessionConfig.{SessionConfig}
+use Rattle.oi_history.specs.declared.event.Event.TheVariants.{Terminate}
+use Rattle.oi_history.specs.declared.phase.End.{End}
+use Rattle.oi_history.specs.declared.phase.End.TheVariants.{Asked as ByLine, InputEnd as ByInput, Stopped}
+use Rattle.oi_script.specs.Printed.{fault_text}
+use Rattle.oi_session.specs.Sessions.{RunView, Session, entered, run_of}
+
+-- the settings of the replayed session
+abbrev pub drive_config : SessionConfig
+drive_config = record {
+  sid = 1;
+  tries = 6;
+  replacement = pos 120;
+  noop_interval = 5;
+  noop_timeout = 5;
+  abort = 15;
+  lun_reset = 30;
+  target_reset = 30;
+  logout = 15;
+  cmds_max = 128;
+  steps = 1000000;
+  kept = 134217728;
+  queue_depth = 1024;
+  count_disrupted = true
+}
+
+abbrev pub first_world : World
+first_world = record { session = record { config = drive_config; history = [] }; part = []; line = 0; stop = None }
+
+-- the end of the session, all that is due handed out behind it
+abbrev pub closed_by : End → Session → Session
+closed_by cause s = delivered (entered s (Terminate cause))
+
+abbrev pub closing_text : End → Session → List ℕ
+closing_text cause s = outcomes (entered s (Terminate cause))
+
+abbrev pub cause_of : Option Stop → End
+cause_of (Some Asked) = ByLine
+cause_of (Some InputEnd) = ByInput
+cause_of (Some (BadLine line)) = Stopped 7
+cause_of None = ByInput
+
+abbrev pub status_of : Option Stop → ℕ
+status_of (Some (BadLine line)) = 7
+status_of o = 0
+
+abbrev pub stop_text : Option Stop → List ℕ
+stop_text (Some (BadLine line)) = fault_text 7 line
+stop_text o = []
+
+-- the run, the text and the status that the input bytes give
+abbrev pub drive_world : List ℕ → World
+drive_world bytes = input_world first_world bytes
+
+abbrev pub drive_run : List ℕ → RunView
+drive_run bytes = run_of (closed_by (cause_of (drive_world bytes).stop) (drive_world bytes).session)
+
+abbrev pub drive_text : List ℕ → List ℕ
+drive_text bytes =
+    input_text first_world bytes ++ (closing_text (cause_of (drive_world bytes).stop) (drive_world bytes).session ++ stop_text (drive_world bytes).stop)
+
+abbrev pub drive_status : List ℕ → ℕ
+drive_status bytes = status_of (drive_world bytes).stop
+
+-- a run of a legal history that ended
+pub record IsEndedRun (r : RunView) : Type 0 where
+  pub session : Session
+  pub is : r ≡ run_of session
+  pub legal : IsLegal session.config session.history
+  pub ended : is_ended (snapshot session.config session.history).phase ≡ true
