@@ -1,5 +1,5 @@
 -- What a run of `drive` comes to: why it ended, its status, its last text.
-use Rattle.std.specs.Prelude.{◌≡◌, ℕ, Bool, true, false, ◌++◌, List, [], ◌∷◌, Option, Some, None, pos}
+use Rattle.std.specs.Prelude.{◌≡◌, ℕ, Bool, true, false, ◌++◌, List, [], ◌∷◌, Option, Some, None, Result, Ok, Err, pos, if◌then◌else◌}
 use Rattle.oi_base.specs.Counts.{Rose}
 use Rattle.oi_base.specs.Limits.{input_limit}
 use Rattle.oi_drive.specs.Worlds.{World, delivered, input_text, input_world, outcomes}
@@ -12,8 +12,9 @@ use Rattle.oi_history.specs.declared.config.SessionConfig.{SessionConfig}
 use Rattle.oi_history.specs.declared.event.Event.TheVariants.{Terminate}
 use Rattle.oi_history.specs.declared.phase.End.{End}
 use Rattle.oi_history.specs.declared.phase.End.TheVariants.{Asked as ByLine, InputEnd as ByInput, Stopped}
+use Rattle.oi_outside.specs.Streams.{behind}
 use Rattle.oi_script.specs.Printed.{fault_text}
-use Rattle.oi_session.specs.Sessions.{RunView, Session, entered, run_of}
+use Rattle.oi_session.specs.Sessions.{RunView, Session, entered, now_of, run_of}
 
 -- the settings of the replayed session
 abbrev pub drive_config : SessionConfig
@@ -37,12 +38,16 @@ drive_config = record {
 abbrev pub first_world : World
 first_world = record { session = record { config = drive_config; history = [] }; part = []; line = 0; stop = None }
 
--- the end of the session, all that is due handed out behind it
+-- the end of the session; one that has ended stays as it is
+abbrev pub terminated : End → Session → Session
+terminated cause s = if is_ended (now_of s).phase then s else entered s (Terminate cause)
+
+-- all that is due handed out behind it
 abbrev pub closed_by : End → Session → Session
-closed_by cause s = delivered (entered s (Terminate cause))
+closed_by cause s = delivered (terminated cause s)
 
 abbrev pub closing_text : End → Session → List ℕ
-closing_text cause s = outcomes (entered s (Terminate cause))
+closing_text cause s = outcomes (terminated cause s)
 
 abbrev pub cause_of : Option Stop → End
 cause_of (Some Asked) = ByLine
@@ -78,3 +83,19 @@ pub record IsEndedRun (r : RunView) : Type 0 where
   pub is : r ≡ run_of session
   pub legal : IsLegal session.config session.history
   pub ended : is_ended (snapshot session.config session.history).phase ≡ true
+
+abbrev pub AreEnded : List RunView → Type 0
+AreEnded [] = Unit {0}
+AreEnded (r ∷ rs) = IsEndedRun r × AreEnded rs
+
+-- where the source tells its bytes, no call of it or of the sink failed and memory was there, all is as the bytes say
+pub record IsDrive (bytes : List ℕ) (status : ℕ) (runs : List RunView) (held0 held : Option (List ℕ)) : Type 0 where
+  pub run : runs ≡ drive_run bytes ∷ []
+  pub text : held ≡ behind held0 (drive_text bytes)
+  pub status_is : status ≡ drive_status bytes
+
+-- a status shows its cause
+pub record HasCause (status source0 source sink0 sink : ℕ) : Type 0 where
+  pub read : status ≡ 30 → Rose source0 source
+  pub write : status ≡ 31 → Rose sink0 sink
+  pub clean : status ≡ 0 → (source ≡ source0) × (sink ≡ sink0)

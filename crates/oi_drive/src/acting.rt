@@ -1,8 +1,8 @@
-ghost use Rattle.std.specs.Prelude.{◌≡◌, ◌≤◌, ◌++◌, OnOk, Some, true};
+ghost use Rattle.std.specs.Prelude.{◌≡◌, ◌≤◌, ◌++◌, IfOk, OnOk, Some, true};
 ghost use Rattle.oi_drive.specs.Acts.{Acts, SendsOne};
 ghost use Rattle.oi_history.specs.Phases.{is_logged_in};
 ghost use Rattle.oi_drive.specs.Runs.{seen};
-ghost use Rattle.oi_drive.specs.Worlds.{acted, bad, kind_of, stop_by, acted_text, delivered, due_of_session, fits, line_by, line_by_text, line_step, line_text, outcome_lines, outcomes, sends, sends_text};
+ghost use Rattle.oi_drive.specs.Worlds.{acted, bad, kind_of, stop_by, acted_text, delivered, due_of_session, line_by, line_by_text, line_step, line_text, outcome_lines, outcomes, sends, sends_text};
 ghost use Rattle.oi_script.specs.Lines.{IsValidLine};
 ghost use Rattle.oi_script.specs.declared.line.DriveLine.TheVariants.{Login as LoginLine, Recv, Send, Submit};
 ghost use Rattle.oi_scsi.specs.Requests.{IsValid};
@@ -145,16 +145,27 @@ fn put_outcomes(alloc: Global, sid: u32, due: &[Delivered], out: &mut Vec<u8>) -
     Ok(())
 }
 
+// All that is due.
+fn deliver(solo: &mut Solo, alloc: Global) -> Result<Vec<Delivered>, NoMemory>
+    ensures phase { (now_of solo.new).phase ≡ (now_of solo.old).phase }
+    ensures session { OnOk result (solo.new ≡ delivered solo.old) }
+    ensures due { IfOk result (λ v. v.items ≡ due_of_session solo.old) }
+{
+    let mut due = Vec::new(alloc);
+    match solo.deliver(&mut due) {
+        Ok(_) => Ok(due),
+        Err(_) => Err(NoMemory),
+    }
+}
+
 /// Hands out all that is due, and adds its lines.
 pub fn hand_out(solo: &mut Solo, alloc: Global, out: &mut Vec<u8>) -> Result<(), NoMemory>
+    ensures phase { (now_of solo.new).phase ≡ (now_of solo.old).phase }
     ensures session { OnOk result (solo.new ≡ delivered solo.old) }
     ensures text { OnOk result (out.new.items ≡ out.old.items ++ outcomes solo.old) }
 {
     let sid = solo.sid();
-    let mut due = Vec::new(alloc);
-    if solo.deliver(&mut due).is_err() {
-        return Err(NoMemory);
-    }
+    let due = deliver(solo, alloc)?;
     put_outcomes(alloc, sid, &due, out)
 }
 

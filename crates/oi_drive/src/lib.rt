@@ -2,6 +2,7 @@
 #![tactic(auto)]
 
 mod acting;
+mod ended;
 mod pdus;
 mod reading;
 mod runner;
