@@ -1,5 +1,5 @@
 -- The outcome of a negotiation: the first pair that is refused, and what every key settles to (RFC 7143, sections 6.2 and 13).
-use Rattle.std.specs.Prelude.{◌≡◌, ℕ, Bool, true, false, ◌||◌, ◌&&◌, not, min, List, [], ◌∷◌, ◌++◌, Option, Some, None, is_some, IsSome, codes, if◌then◌else◌}
+use Rattle.std.specs.Prelude.{◌≡◌, ℕ, Bool, true, ◌||◌, ◌&&◌, not, min, List, [], ◌∷◌, ◌++◌, Option, Some, None, is_some, IsSome, codes, if◌then◌else◌}
 use Rattle.std.specs.List.{list_any}
 use Rattle.oi_base.specs.declared.login.Params.{Params}
 use Rattle.oi_text.specs.declared.pairs.Pair.{Pair}

@@ -1,5 +1,5 @@
 -- The table of keys: for each its default, its rule and its range (RFC 7143, section 13).
-use Rattle.std.specs.Prelude.{ℕ, Bool, true, false, ◌||◌, ◌&&◌, min, max}
+use Rattle.std.specs.Prelude.{ℕ, Bool, true, ◌||◌, ◌&&◌, min, max}
 use Rattle.oi_negotiate.specs.declared.keys.WordKey.{WordKey}
 use Rattle.oi_negotiate.specs.declared.keys.WordKey.TheVariants.{InitialR2T, ImmediateData, DataPDUInOrder, DataSequenceInOrder}
 use Rattle.oi_negotiate.specs.declared.keys.NumberKey.{NumberKey}

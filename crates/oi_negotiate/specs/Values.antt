@@ -1,5 +1,5 @@
 -- What the text of a value says (RFC 7143, section 6.1).
-use Rattle.std.specs.Prelude.{ℕ, Bool, true, false, ◌||◌, ◌&&◌, ◌==◌, ◌+◌, ◌-◌, ◌*◌, ◌^◌, List, [], ◌∷◌, Option, Some, None, codes, nat_le, if◌then◌else◌}
+use Rattle.std.specs.Prelude.{ℕ, Bool, true, false, ◌||◌, ◌&&◌, ◌==◌, ◌+◌, ◌-◌, ◌*◌, List, [], ◌∷◌, Option, Some, None, codes, nat_le, if◌then◌else◌}
 use Rattle.oi_base.specs.Extended.{in_range}
 use Rattle.oi_negotiate.specs.Keys.{is_text}
 use Rattle.oi_negotiate.specs.declared.values.Base.{Base}
