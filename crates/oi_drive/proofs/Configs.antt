@@ -1,5 +1,5 @@
 -- The settings of the replayed session are valid.
-use Rattle.std.proofs.Common.{◌≤◌, ℕ, arith, rules}
+use Rattle.std.proofs.Common.{arith, rules}
 use Rattle.oi_drive.specs.Endings.{drive_config}
 use Rattle.oi_history.specs.Configs.{IsValidConfig}
 
@@ -16,5 +16,5 @@ config_is_valid = record {
   cmds_max = (omega arith, omega arith);
   steps = (omega arith, omega arith);
   kept = (omega arith, omega arith);
-  queue_depth = (omega arith, omega arith)
+  queue_depth = (omega arith, omega arith);
 }

@@ -3,3 +3,4 @@ pub mod Outputs
 pub mod Repeats
 pub mod Readings
 pub mod Takings
+pub mod Closings

@@ -1,5 +1,5 @@
 -- Texts behind one another.
-use Rattle.std.proofs.Common.{◌≡◌, ◌∙◌, ◌+◌, ◌-◌, ◌≤◌, ◌<◌, ℕ, List, [], ◌∷◌, ◌++◌, Option, Some, None, take, drop, sym, ap, refl, arith, append-nil, append_assoc}
+use Rattle.std.proofs.Common.{◌≡◌, ◌∙◌, ◌+◌, ◌-◌, ◌<◌, ℕ, List, [], ◌++◌, Option, Some, None, take, drop, sym, ap, refl, arith, append-nil, append_assoc}
 use Rattle.std.proofs.Math.Seq.{take-add}
 use Rattle.oi_outside.specs.Streams.{behind}
 
@@ -16,4 +16,4 @@ pub written_more : (h now held : Option (List ℕ)) (bytes : List ℕ) (at next 
 written_more h now held bytes at next less was is =
     let count : at + (next - at) ≡ next = omega arith in
     is ∙ (ap (λ (z : Option (List ℕ)). behind z (take (next - at) (drop at bytes))) was
-        ∙ (behind-append h (take at bytes) (take (next - at) (drop at bytes)) ∙ ap (λ (z : List ℕ). behind h z) (sym (take-add at (next - at) bytes) ∙ ap (λ n. take n bytes) count)))
+    ∙ (behind-append h (take at bytes) (take (next - at) (drop at bytes)) ∙ ap (λ (z : List ℕ). behind h z) (sym (take-add at (next - at) bytes) ∙ ap (λ n. take n bytes) count)))

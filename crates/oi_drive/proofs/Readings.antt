@@ -1,12 +1,10 @@
 -- Pieces of an input read one after another.
-use Rattle.std.proofs.Common.{◌≡◌, ◌∙◌, ◌+◌, ◌-◌, ◌≤◌, ◌<◌, ℕ, suc, zero, Bool, true, false, List, [], ◌∷◌, ◌++◌, Option, Some, None, Result, Ok, Err, length, take, drop, sym, ap, subst, refl, arith, append-nil, append_assoc, length-append, nat_le, if◌then◌else◌, is_some}
+use Rattle.std.proofs.Common.{◌≡◌, ◌∙◌, ◌+◌, ℕ, suc, zero, Bool, true, false, List, [], ◌∷◌, ◌++◌, Option, Some, None, length, take, sym, ap, subst, refl, arith, append-nil, append_assoc, length-append, nat_le, if◌then◌else◌, is_some}
 use Rattle.std.proofs.lemmas.Bool.Decides.{nat_tests}
-use Rattle.std.proofs.lemmas.List.{take-append-le, length-take-le, take-take}
 use Rattle.oi_base.specs.Counts.{Rose}
-use Rattle.oi_drive.proofs.Outputs.{behind-append, behind_none}
+use Rattle.oi_drive.proofs.Outputs.{behind-append}
 use Rattle.oi_drive.specs.Inputs.{BreaksBy, Finishes, GoesOn, rest_text, rest_world}
 use Rattle.oi_drive.specs.Worlds.{World, byte_text, feed, feed_byte, feed_text, input_end, input_end_text, input_over}
-use Rattle.oi_drive.specs.Writes.{Prints}
 use Rattle.oi_drive.specs.declared.runner.Broken.{Broken}
 use Rattle.oi_drive.specs.declared.runner.Broken.TheVariants.{Memory, Read, Write}
 use Rattle.oi_outside.specs.Streams.{behind, in_front}
@@ -76,7 +74,7 @@ chosen a b x x1 y y1 same p q = rw (same, p, q) refl
 pub rest_world_more : (room less : ℕ) (w : World) (p m : List ℕ) → length p + less ≡ room → rest_world room w (p ++ m) ≡ rest_world less (feed w p) m
 rest_world_more room less w p m count =
     chosen (nat_le (length (p ++ m)) room) (nat_le (length m) less) _ _ _ _ (ap (λ n. nat_le n room) (length-append p m) ∙ le_less (length m) (length p) less room count)
-        (ap input_end (feed-append w p m)) (ap input_over (ap (λ (z : List ℕ). feed w z) (take_behind p m room less count) ∙ feed-append w p (take less m)))
+    (ap input_end (feed-append w p m)) (ap input_over (ap (λ (z : List ℕ). feed w z) (take_behind p m room less count) ∙ feed-append w p (take less m)))
 
 push_in : (b : Bool) (a x y : List ℕ) → (if b then a ++ x else a ++ y) ≡ a ++ (if b then x else y)
 push_in true a x y = refl
@@ -85,9 +83,9 @@ push_in false a x y = refl
 pub rest_text_more : (room less : ℕ) (w : World) (p m : List ℕ) → length p + less ≡ room → rest_text room w (p ++ m) ≡ feed_text w p ++ rest_text less (feed w p) m
 rest_text_more room less w p m count =
     chosen (nat_le (length (p ++ m)) room) (nat_le (length m) less) _ _ _ _ (ap (λ n. nat_le n room) (length-append p m) ∙ le_less (length m) (length p) less room count)
-        (ap (λ (z : List ℕ). z ++ input_end_text (feed w (p ++ m))) (feed_text-append w p m) ∙ (ap (λ (z : World). (feed_text w p ++ feed_text (feed w p) m) ++ input_end_text z) (feed-append w p m)
-            ∙ append_assoc (feed_text w p) (feed_text (feed w p) m) (input_end_text (feed (feed w p) m))))
-        (ap (λ (z : List ℕ). feed_text w z) (take_behind p m room less count) ∙ feed_text-append w p (take less m))
+    (ap (λ (z : List ℕ). z ++ input_end_text (feed w (p ++ m))) (feed_text-append w p m) ∙ (ap (λ (z : World). (feed_text w p ++ feed_text (feed w p) m) ++ input_end_text z) (feed-append w p m)
+    ∙ append_assoc (feed_text w p) (feed_text (feed w p) m) (input_end_text (feed (feed w p) m))))
+    (ap (λ (z : List ℕ). feed_text w z) (take_behind p m room less count) ∙ feed_text-append w p (take less m))
     ∙ push_in (nat_le (length m) less) (feed_text w p) (feed_text (feed w p) m ++ input_end_text (feed (feed w p) m)) (feed_text (feed w p) (take less m))
 
 -- what is left behind a piece
@@ -102,17 +100,17 @@ behind_piece piece left0 (Some more) bytes moved is = let same : bytes ≡ piece
 
 -- the input came to its stop with a piece
 pub finishes_stopped : (room less : ℕ) (left0 left : Option (List ℕ)) (w0 w : World) (held0 held : Option (List ℕ)) (piece : List ℕ) → left0 ≡ in_front piece left → length piece + less ≡ room
-  → w ≡ feed w0 piece → is_some w.stop ≡ true → held ≡ behind held0 (feed_text w0 piece) → Finishes room left0 w0 w held0 held
+    → w ≡ feed w0 piece → is_some w.stop ≡ true → held ≡ behind held0 (feed_text w0 piece) → Finishes room left0 w0 w held0 held
 finishes_stopped room less left0 left w0 w held0 held piece moved count goes stopped wrote = record {
   world = λ bytes is.
-    let b = behind_piece piece left0 left bytes moved is in
-    sym (ap (λ (z : List ℕ). rest_world room w0 z) b.whole ∙ (rest_world_more room less w0 piece b.more count
+      let b = behind_piece piece left0 left bytes moved is in
+      sym (ap (λ (z : List ℕ). rest_world room w0 z) b.whole ∙ (rest_world_more room less w0 piece b.more count
       ∙ (ap (λ (z : World). rest_world less z b.more) (sym goes) ∙ rest_world_stopped less w b.more stopped)));
   text = λ bytes is.
-    let b = behind_piece piece left0 left bytes moved is in
-    wrote ∙ ap (λ (z : List ℕ). behind held0 z) (sym (ap (λ (z : List ℕ). rest_text room w0 z) b.whole ∙ (rest_text_more room less w0 piece b.more count
+      let b = behind_piece piece left0 left bytes moved is in
+      wrote ∙ ap (λ (z : List ℕ). behind held0 z) (sym (ap (λ (z : List ℕ). rest_text room w0 z) b.whole ∙ (rest_text_more room less w0 piece b.more count
       ∙ (ap (λ (z : World). feed_text w0 piece ++ rest_text less z b.more) (sym goes)
-      ∙ (ap (λ (z : List ℕ). feed_text w0 piece ++ z) (rest_text_stopped less w b.more stopped) ∙ append-nil (feed_text w0 piece))))))
+      ∙ (ap (λ (z : List ℕ). feed_text w0 piece ++ z) (rest_text_stopped less w b.more stopped) ∙ append-nil (feed_text w0 piece))))));
 }
 
 -- what is left leads to what the whole input leads to
@@ -131,32 +129,32 @@ pub going_first : (limit : ℕ) (left : Option (List ℕ)) (w : World) (held : O
 going_first limit left w held source sink = record { rest = λ bytes is. record { more = bytes; is = is; world = refl; text = refl }; source_same = refl; sink_same = refl }
 
 pub going_more : (limit room less : ℕ) (left0 left left1 : Option (List ℕ)) (w0 w w1 : World) (held0 held held1 : Option (List ℕ)) (source0 source source1 sink0 sink sink1 : ℕ)
-  → IsGoing limit room left0 left w0 w held0 held source0 source sink0 sink → GoesOn room less left left1 w w1 held held1 → source1 ≡ source → sink1 ≡ sink
-  → IsGoing limit less left0 left1 w0 w1 held0 held1 source0 source1 sink0 sink1
+    → IsGoing limit room left0 left w0 w held0 held source0 source sink0 sink → GoesOn room less left left1 w w1 held held1 → source1 ≡ source → sink1 ≡ sink
+    → IsGoing limit less left0 left1 w0 w1 held0 held1 source0 source1 sink0 sink1
 going_more limit room less left0 left left1 w0 w w1 held0 held held1 source0 source source1 sink0 sink sink1 r go same_source same_sink = record {
   rest = λ bytes is.
-    let old = r.rest bytes is in
-    let b = behind_piece go.piece left left1 old.more go.moved old.is in
-    record {
-      more = b.more;
-      is = b.is;
-      world = ap (λ (z : World). rest_world less z b.more) go.world
-        ∙ (sym (rest_world_more room less w go.piece b.more go.count) ∙ (ap (λ (z : List ℕ). rest_world room w z) (sym b.whole) ∙ old.world));
-      text = ap (λ (z : World). behind held1 (rest_text less z b.more)) go.world
-        ∙ (ap (λ (z : Option (List ℕ)). behind z (rest_text less (feed w go.piece) b.more)) go.text
-        ∙ (behind-append held (feed_text w go.piece) (rest_text less (feed w go.piece) b.more)
-        ∙ (ap (λ (z : List ℕ). behind held z) (sym (rest_text_more room less w go.piece b.more go.count))
-        ∙ (ap (λ (z : List ℕ). behind held (rest_text room w z)) (sym b.whole) ∙ old.text))))
-    };
+      let old = r.rest bytes is in
+      let b = behind_piece go.piece left left1 old.more go.moved old.is in
+      record {
+        more = b.more;
+        is = b.is;
+        world = ap (λ (z : World). rest_world less z b.more) go.world
+            ∙ (sym (rest_world_more room less w go.piece b.more go.count) ∙ (ap (λ (z : List ℕ). rest_world room w z) (sym b.whole) ∙ old.world));
+        text = ap (λ (z : World). behind held1 (rest_text less z b.more)) go.world
+            ∙ (ap (λ (z : Option (List ℕ)). behind z (rest_text less (feed w go.piece) b.more)) go.text
+            ∙ (behind-append held (feed_text w go.piece) (rest_text less (feed w go.piece) b.more)
+            ∙ (ap (λ (z : List ℕ). behind held z) (sym (rest_text_more room less w go.piece b.more go.count))
+            ∙ (ap (λ (z : List ℕ). behind held (rest_text room w z)) (sym b.whole) ∙ old.text))));
+      };
   source_same = same_source ∙ r.source_same;
-  sink_same = same_sink ∙ r.sink_same
+  sink_same = same_sink ∙ r.sink_same;
 }
 
 pub going_end : (limit room : ℕ) (left0 left : Option (List ℕ)) (w0 w w1 : World) (held0 held held1 : Option (List ℕ)) (source0 source sink0 sink : ℕ)
-  → IsGoing limit room left0 left w0 w held0 held source0 source sink0 sink → Finishes room left w w1 held held1 → Finishes limit left0 w0 w1 held0 held1
+    → IsGoing limit room left0 left w0 w held0 held source0 source sink0 sink → Finishes room left w w1 held held1 → Finishes limit left0 w0 w1 held0 held1
 going_end limit room left0 left w0 w w1 held0 held held1 source0 source sink0 sink r fin = record {
   world = λ bytes is. let old = r.rest bytes is in fin.world old.more old.is ∙ old.world;
-  text = λ bytes is. let old = r.rest bytes is in fin.text old.more old.is ∙ old.text
+  text = λ bytes is. let old = r.rest bytes is in fin.text old.more old.is ∙ old.text;
 }
 
 pub breaks_by_from : (e : Broken) (source0 source source1 sink0 sink sink1 : ℕ) → source ≡ source0 → sink ≡ sink0 → BreaksBy e source source1 sink sink1 → BreaksBy e source0 source1 sink0 sink1

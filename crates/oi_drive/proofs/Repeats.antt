@@ -1,5 +1,5 @@
 -- Transmissions one after another.
-use Rattle.std.proofs.Common.{◌≡◌, ◌∙◌, ◌+◌, ◌-◌, ◌<◌, ℕ, suc, zero, Bool, true, false, List, [], ◌∷◌, ◌++◌, Option, Some, None, sym, ap, subst, refl, arith, append_assoc, append-nil, slice_get, not, if◌then◌else◌}
+use Rattle.std.proofs.Common.{◌≡◌, ◌∙◌, ◌+◌, ◌-◌, ◌<◌, ℕ, suc, Bool, true, false, List, ◌++◌, Option, Some, None, sym, ap, subst, refl, arith, append_assoc, append-nil, slice_get, not, if◌then◌else◌}
 use Rattle.std.specs.Option.{option_map_or}
 use Rattle.oi_base.specs.declared.tag.Tag.{Tag}
 use Rattle.oi_drive.specs.Worlds.{sends, sends_text}
@@ -37,10 +37,10 @@ sends_on count i g s e h is =
     ap (λ n. sends n g s) (one_less count i h) ∙ ap (λ (o : Option Event). option_map_or (λ x. sends (count - (i + 1)) g (entered (reaped s) x)) o (reaped s)) is
 
 pub sends_text_on : (count i g : ℕ) (s : Session) (e : Event) → i < count → next_to_send g (now_of (reaped s)) ≡ Some e
-  → sends_text (count - i) g s ≡ tx_text g (sent_bytes (now_of (reaped s)) e) ++ sends_text (count - (i + 1)) g (entered (reaped s) e)
+    → sends_text (count - i) g s ≡ tx_text g (sent_bytes (now_of (reaped s)) e) ++ sends_text (count - (i + 1)) g (entered (reaped s) e)
 sends_text_on count i g s e h is =
     ap (λ n. sends_text n g s) (one_less count i h)
-        ∙ ap (λ (o : Option Event). option_map_or (λ x. tx_text g (sent_bytes (now_of (reaped s)) x) ++ sends_text (count - (i + 1)) g (entered (reaped s) x)) o idle_text) is
+    ∙ ap (λ (o : Option Event). option_map_or (λ x. tx_text g (sent_bytes (now_of (reaped s)) x) ++ sends_text (count - (i + 1)) g (entered (reaped s) x)) o idle_text) is
 
 pub sends_end : (count i g : ℕ) (s : Session) → i < count → next_to_send g (now_of (reaped s)) ≡ None → sends (count - i) g s ≡ reaped s
 sends_end count i g s h is =
@@ -49,7 +49,7 @@ sends_end count i g s h is =
 pub sends_text_end : (count i g : ℕ) (s : Session) → i < count → next_to_send g (now_of (reaped s)) ≡ None → sends_text (count - i) g s ≡ idle_text
 sends_text_end count i g s h is =
     ap (λ n. sends_text n g s) (one_less count i h)
-        ∙ ap (λ (o : Option Event). option_map_or (λ x. tx_text g (sent_bytes (now_of (reaped s)) x) ++ sends_text (count - (i + 1)) g (entered (reaped s) x)) o idle_text) is
+    ∙ ap (λ (o : Option Event). option_map_or (λ x. tx_text g (sent_bytes (now_of (reaped s)) x) ++ sends_text (count - (i + 1)) g (entered (reaped s) x)) o idle_text) is
 
 -- after i of so many transmissions, the rest leads to what all lead to
 pub record IsSending (g count i : ℕ) (first now : Session) (before after : List ℕ) : Type 0 where
@@ -61,14 +61,14 @@ pub sending_first : (g count : ℕ) (s : Session) (out : List ℕ) → is_logged
 sending_first g count s out live = record { live = live; session = ap (λ n. sends n g s) (omega arith); text = ap (λ n. out ++ sends_text n g s) (omega arith) }
 
 pub sending_more : (g count i : ℕ) (first old new : Session) (before mid after : List ℕ) (e : Event) → i < count → IsSending g count i first old before mid → next_to_send g (now_of (reaped old)) ≡ Some e
-  → new ≡ entered (reaped old) e → after ≡ mid ++ tx_text g (sent_bytes (now_of (reaped old)) e) → IsSending g count (i + 1) first new before after
+    → new ≡ entered (reaped old) e → after ≡ mid ++ tx_text g (sent_bytes (now_of (reaped old)) e) → IsSending g count (i + 1) first new before after
 sending_more g count i first old new before mid after e h r is session text = record {
   live = subst (λ (s : Session). is_logged_in (now_of s).phase g ≡ true) (sym session) (stays_logged_in g old e r.live is);
   session = ap (λ (s : Session). sends (count - (i + 1)) g s) session ∙ (sym (sends_on count i g old e h is) ∙ r.session);
   text = ap (λ (s : Session). after ++ sends_text (count - (i + 1)) g s) session
-    ∙ (ap (λ (z : List ℕ). z ++ sends_text (count - (i + 1)) g (entered (reaped old) e)) text
-    ∙ (append_assoc mid (tx_text g (sent_bytes (now_of (reaped old)) e)) (sends_text (count - (i + 1)) g (entered (reaped old) e))
-    ∙ (ap (λ (z : List ℕ). mid ++ z) (sym (sends_text_on count i g old e h is)) ∙ r.text)))
+      ∙ (ap (λ (z : List ℕ). z ++ sends_text (count - (i + 1)) g (entered (reaped old) e)) text
+      ∙ (append_assoc mid (tx_text g (sent_bytes (now_of (reaped old)) e)) (sends_text (count - (i + 1)) g (entered (reaped old) e))
+      ∙ (ap (λ (z : List ℕ). mid ++ z) (sym (sends_text_on count i g old e h is)) ∙ r.text)));
 }
 
 -- nothing is left to send
@@ -77,10 +77,10 @@ pub record Sent (g count : ℕ) (first now : Session) (before after : List ℕ) 
   pub text : after ≡ before ++ sends_text count g first
 
 pub sending_idle : (g count i : ℕ) (first old new : Session) (before mid after : List ℕ) → i < count → IsSending g count i first old before mid → next_to_send g (now_of (reaped old)) ≡ None
-  → new ≡ reaped old → after ≡ mid ++ idle_text → Sent g count first new before after
+    → new ≡ reaped old → after ≡ mid ++ idle_text → Sent g count first new before after
 sending_idle g count i first old new before mid after h r is session text = record {
   session = session ∙ (sym (sends_end count i g old h is) ∙ r.session);
-  text = text ∙ (ap (λ (z : List ℕ). mid ++ z) (sym (sends_text_end count i g old h is)) ∙ r.text)
+  text = text ∙ (ap (λ (z : List ℕ). mid ++ z) (sym (sends_text_end count i g old h is)) ∙ r.text);
 }
 
 pub sending_over : (g count i : ℕ) (first now : Session) (before after : List ℕ) → count ≡ i → IsSending g count i first now before after → Sent g count first now before after

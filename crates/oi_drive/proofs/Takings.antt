@@ -1,5 +1,5 @@
 -- Bytes taken one after another.
-use Rattle.std.proofs.Common.{◌≡◌, ◌∙◌, ◌+◌, ◌≤◌, ◌<◌, ℕ, suc, zero, List, [], ◌∷◌, ◌++◌, Option, Some, None, Result, Ok, Err, length, drop, get_or, sym, ap, subst, refl, arith, add-one, drop-cons}
+use Rattle.std.proofs.Common.{◌≡◌, ◌∙◌, ◌+◌, ◌≤◌, ◌<◌, ℕ, suc, zero, List, [], ◌∷◌, Option, Err, length, drop, get_or, sym, ap, subst, refl, arith, add-one, drop-cons}
 use Rattle.oi_base.specs.Counts.{Rose}
 use Rattle.oi_drive.proofs.Outputs.{behind-append, behind_none}
 use Rattle.oi_drive.specs.Worlds.{World, byte_text, feed, feed_byte, feed_text}
@@ -21,17 +21,17 @@ front_of : (piece : List ℕ) (i b : ℕ) → i < length piece → b ≡ get_or 
 front_of piece i b h is = drop-cons piece i b h ∙ (ap (λ x. x ∷ drop (suc i) piece) (sym is) ∙ ap (λ n. b ∷ drop n piece) (sym (add-one i)))
 
 pub taking_more : (w0 w w1 : World) (piece : List ℕ) (i b : ℕ) (held0 held held1 : Option (List ℕ)) (faults0 faults faults1 : ℕ) → i < length piece → b ≡ get_or piece i b
-  → IsTaking w0 w piece i held0 held faults0 faults → w1 ≡ feed_byte w b → (held1 ≡ behind held (byte_text w b)) × (faults1 ≡ faults) → IsTaking w0 w1 piece (i + 1) held0 held1 faults0 faults1
+    → IsTaking w0 w piece i held0 held faults0 faults → w1 ≡ feed_byte w b → (held1 ≡ behind held (byte_text w b)) × (faults1 ≡ faults) → IsTaking w0 w1 piece (i + 1) held0 held1 faults0 faults1
 taking_more w0 w w1 piece i b held0 held held1 faults0 faults faults1 h is r goes out =
     let cut = front_of piece i b h is in
     let rest = drop (i + 1) piece in
     record {
       world = ap (λ (z : World). feed z rest) goes ∙ (ap (λ (z : List ℕ). feed w z) (sym cut) ∙ r.world);
       text = ap (λ (z : World). behind held1 (feed_text z rest)) goes
-        ∙ (ap (λ (z : Option (List ℕ)). behind z (feed_text (feed_byte w b) rest)) out.0
-        ∙ (behind-append held (byte_text w b) (feed_text (feed_byte w b) rest)
-        ∙ (ap (λ (z : List ℕ). behind held (feed_text w z)) (sym cut) ∙ r.text)));
-      faults_same = out.1 ∙ r.faults_same
+          ∙ (ap (λ (z : Option (List ℕ)). behind z (feed_text (feed_byte w b) rest)) out.0
+          ∙ (behind-append held (byte_text w b) (feed_text (feed_byte w b) rest)
+          ∙ (ap (λ (z : List ℕ). behind held (feed_text w z)) (sym cut) ∙ r.text)));
+      faults_same = out.1 ∙ r.faults_same;
     }
 
 -- the whole piece is taken
@@ -50,7 +50,7 @@ taking_over w0 w piece i held0 held faults0 faults h r =
     let none = none_past piece i h in
     record {
       world = ap (λ (z : List ℕ). feed w z) (sym none) ∙ r.world;
-      prints = (sym (behind_none held) ∙ (ap (λ (z : List ℕ). behind held (feed_text w z)) (sym none) ∙ r.text), r.faults_same)
+      prints = (sym (behind_none held) ∙ (ap (λ (z : List ℕ). behind held (feed_text w z)) (sym none) ∙ r.text), r.faults_same);
     }
 
 -- a break counts from where nothing was broken

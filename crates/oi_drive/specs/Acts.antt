@@ -1,5 +1,5 @@
 -- What a line's action leaves: true where the line can stand, with its entries and its text; else nothing.
-use Rattle.std.specs.Prelude.{◌≡◌, Bool, true, false, ◌++◌, ℕ, List, Option, Some, None, Result, Ok, Err}
+use Rattle.std.specs.Prelude.{◌≡◌, Bool, true, false, ◌++◌, ℕ, List, Some, None, Result, Ok, Err}
 use Rattle.oi_base.specs.declared.memory.NoMemory.{NoMemory}
 use Rattle.oi_drive.specs.Worlds.{acted, acted_text, fits}
 use Rattle.oi_script.specs.declared.line.DriveLine.{DriveLine}

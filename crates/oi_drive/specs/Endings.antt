@@ -1,7 +1,8 @@
 -- What a run of `drive` comes to: why it ended, its status, its last text.
-use Rattle.std.specs.Prelude.{◌≡◌, ℕ, Bool, true, false, ◌++◌, List, [], ◌∷◌, Option, Some, None, Result, Ok, Err, pos, if◌then◌else◌}
+use Rattle.std.specs.Prelude.{◌≡◌, ℕ, true, ◌++◌, List, [], ◌∷◌, Option, Some, None, pos, if◌then◌else◌}
 use Rattle.oi_base.specs.Counts.{Rose}
-use Rattle.oi_base.specs.Limits.{input_limit}
+use Rattle.oi_drive.specs.declared.runner.Broken.{Broken}
+use Rattle.oi_drive.specs.declared.runner.Broken.TheVariants.{Memory, Read, Write}
 use Rattle.oi_drive.specs.Worlds.{World, delivered, input_text, input_world, outcomes}
 use Rattle.oi_drive.specs.declared.runner.Stop.{Stop}
 use Rattle.oi_drive.specs.declared.runner.Stop.TheVariants.{Asked, InputEnd, BadLine}
@@ -32,7 +33,7 @@ drive_config = record {
   steps = 1000000;
   kept = 134217728;
   queue_depth = 1024;
-  count_disrupted = true
+  count_disrupted = true;
 }
 
 abbrev pub first_world : World
@@ -62,6 +63,28 @@ status_of o = 0
 abbrev pub stop_text : Option Stop → List ℕ
 stop_text (Some (BadLine line)) = fault_text 7 line
 stop_text o = []
+
+-- the status of a run that broke
+abbrev pub broken_status : Broken → ℕ
+broken_status Memory = 3
+broken_status Read = 30
+broken_status Write = 31
+
+-- a last text was printed, or its print failed: that shows only in a status that was 0
+pub record PutsOut (text : List ℕ) (status0 status : ℕ) (held0 held : Option (List ℕ)) (sink0 sink : ℕ) : Type 0 where
+  pub exact : (Rose sink0 sink → ⊥) → (held ≡ behind held0 text) × (status ≡ status0)
+  pub write : status ≡ 31 → Rose sink0 sink
+  pub clean : status ≡ 0 → sink ≡ sink0
+  pub others : (n : ℕ) → status ≡ n → (n ≡ 31 → ⊥) → n ≡ status0
+
+-- what is left of a run whose input was read
+pub record Closes (w0 : World) (session : Session) (status : ℕ) (held0 held : Option (List ℕ)) (sink0 sink : ℕ) : Type 0 where
+  pub session_is : (status ≡ 3 → ⊥) → session ≡ closed_by (cause_of w0.stop) w0.session
+  pub text : (Rose sink0 sink → ⊥) → (status ≡ 3 → ⊥) → held ≡ behind held0 (closing_text (cause_of w0.stop) w0.session ++ stop_text w0.stop)
+  pub status_is : (Rose sink0 sink → ⊥) → (status ≡ 3 → ⊥) → status ≡ status_of w0.stop
+  pub read : status ≡ 30 → ⊥
+  pub write : status ≡ 31 → Rose sink0 sink
+  pub clean : status ≡ 0 → sink ≡ sink0
 
 -- the run, the text and the status that the input bytes give
 abbrev pub drive_world : List ℕ → World

@@ -1,5 +1,5 @@
 -- The rest of an input, of which so many bytes may still come.
-use Rattle.std.specs.Prelude.{◌≡◌, ◌+◌, ◌<◌, ℕ, ◌++◌, List, [], Option, Some, None, Result, Ok, Err, length, take, nat_le, if◌then◌else◌}
+use Rattle.std.specs.Prelude.{◌≡◌, ◌+◌, ◌<◌, ℕ, ◌++◌, List, Option, Some, None, Result, Ok, Err, length, take, nat_le, if◌then◌else◌}
 use Rattle.oi_base.specs.Counts.{Rose}
 use Rattle.oi_drive.specs.Worlds.{World, feed, feed_text, input_end, input_end_text, input_over}
 use Rattle.oi_drive.specs.declared.runner.Broken.{Broken}

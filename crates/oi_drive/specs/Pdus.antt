@@ -18,8 +18,8 @@ pdu_at head bytes =
     if is_some (bad_header (basic_at head)) then None
     else (if whole_len head == length bytes
     then (if is_taken (header_of (basic_at head))
-        then Some (record { head = header_of (basic_at head); payload = take (data_len head) (drop (48 + additional head) bytes) })
-        else None)
+    then Some (record { head = header_of (basic_at head); payload = take (data_len head) (drop (48 + additional head) bytes) })
+    else None)
     else None)
 
 abbrev pub whole_pdu : List ℕ → Option Pdu

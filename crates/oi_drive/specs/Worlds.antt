@@ -1,6 +1,6 @@
 -- The replayed session: what its input bytes make of it, and the text that they give. Bytes are taken one by one; at a
 -- line feed the line is done. After a stop nothing counts.
-use Rattle.std.specs.Prelude.{ℕ, Bool, true, false, not, ◌+◌, ◌-◌, ◌^◌, ◌==◌, ◌&&◌, ◌++◌, List, [], ◌∷◌, Option, Some, None, is_some, length, min, take, nat_le, nat_lt, if◌then◌else◌, suc, zero}
+use Rattle.std.specs.Prelude.{ℕ, Bool, true, not, ◌+◌, ◌-◌, ◌^◌, ◌==◌, ◌&&◌, ◌++◌, List, [], ◌∷◌, Option, Some, None, is_some, length, min, take, nat_le, nat_lt, if◌then◌else◌, suc, zero}
 use Rattle.std.specs.List.{flat_map}
 use Rattle.std.specs.Option.{option_map_or}
 use Rattle.oi_base.specs.Limits.{input_limit, line_limit, most_pending}
@@ -11,7 +11,6 @@ use Rattle.oi_drive.specs.declared.runner.Stop.{Stop}
 use Rattle.oi_drive.specs.declared.runner.Stop.TheVariants.{Asked, InputEnd, BadLine}
 use Rattle.oi_history.specs.Phases.{has_connection, is_ended, is_logged_in}
 use Rattle.oi_history.specs.Tasks.{due_in}
-use Rattle.oi_history.specs.declared.event.Event.{Event}
 use Rattle.oi_history.specs.declared.event.Event.TheVariants.{Submit, PduIn, Login}
 use Rattle.oi_history.specs.declared.fate.Delivered.{Delivered}
 use Rattle.oi_history.specs.declared.phase.Phase.{Phase}

@@ -25,7 +25,12 @@ fn put(out: &mut Vec<u8>, text: &[u8]) -> Result<(), NoMemory>
 }
 
 // A login line. Answers whether it can stand here.
-fn login(solo: &mut Solo, alloc: Global, done: LoginDone, out: &mut Vec<u8>) -> Result<bool, NoMemory>
+fn login(
+    solo: &mut Solo,
+    alloc: Global,
+    done: LoginDone,
+    out: &mut Vec<u8>,
+) -> Result<bool, NoMemory>
     requires { 1 ≤ done.params.max_send }
     ensures { Acts (LoginLine done.cmdsn done.max done.exp_stat done.params) solo.old out.old.items result solo.new out.new.items }
 {
@@ -50,7 +55,13 @@ fn submit(solo: &mut Solo, request: Request, out: &mut Vec<u8>) -> Result<bool, 
     }
 }
 
-fn recv(solo: &mut Solo, alloc: Global, generation: u64, bytes: &[u8], out: &mut Vec<u8>) -> Result<bool, NoMemory>
+fn recv(
+    solo: &mut Solo,
+    alloc: Global,
+    generation: u64,
+    bytes: &[u8],
+    out: &mut Vec<u8>,
+) -> Result<bool, NoMemory>
     ensures { Acts (Recv generation bytes.now) solo.old out.old.items result solo.new out.new.items }
 {
     match solo.phase() {
@@ -67,7 +78,12 @@ fn recv(solo: &mut Solo, alloc: Global, generation: u64, bytes: &[u8], out: &mut
 }
 
 // One transmission. Answers whether a PDU was sent.
-fn send_once(solo: &mut Solo, alloc: Global, generation: u64, out: &mut Vec<u8>) -> Result<bool, NoMemory>
+fn send_once(
+    solo: &mut Solo,
+    alloc: Global,
+    generation: u64,
+    out: &mut Vec<u8>,
+) -> Result<bool, NoMemory>
     requires { is_logged_in (now_of solo.old).phase generation ≡ true }
     ensures { SendsOne solo.old generation out.old.items result solo.new out.new.items }
 {
@@ -86,7 +102,13 @@ fn send_once(solo: &mut Solo, alloc: Global, generation: u64, out: &mut Vec<u8>)
 }
 
 // Up to so many transmissions, until nothing is left to send.
-fn send(solo: &mut Solo, alloc: Global, generation: u64, count: u32, out: &mut Vec<u8>) -> Result<(), NoMemory>
+fn send(
+    solo: &mut Solo,
+    alloc: Global,
+    generation: u64,
+    count: u32,
+    out: &mut Vec<u8>,
+) -> Result<(), NoMemory>
     requires { is_logged_in (now_of solo.old).phase generation ≡ true }
     ensures session { OnOk result (solo.new ≡ sends count generation solo.old) }
     ensures text { OnOk result (out.new.items ≡ out.old.items ++ sends_text count generation solo.old) }
@@ -99,7 +121,12 @@ fn send(solo: &mut Solo, alloc: Global, generation: u64, count: u32, out: &mut V
     Ok(())
 }
 
-fn send_line(solo: &mut Solo, alloc: Global, count: u32, out: &mut Vec<u8>) -> Result<bool, NoMemory>
+fn send_line(
+    solo: &mut Solo,
+    alloc: Global,
+    count: u32,
+    out: &mut Vec<u8>,
+) -> Result<bool, NoMemory>
     ensures { Acts (Send count) solo.old out.old.items result solo.new out.new.items }
 {
     if let Phase::LoggedIn { generation } = solo.phase() {
@@ -131,12 +158,23 @@ fn act(solo: &mut Solo, alloc: Global, line: DriveLine, out: &mut Vec<u8>) -> Re
         }
         DriveLine::Submit { request } => submit(solo, request, out),
         DriveLine::Send { count } => send_line(solo, alloc, count, out),
-        DriveLine::Recv { generation, bytes } => recv(solo, alloc, generation, bytes.as_slice(), out),
+        DriveLine::Recv { generation, bytes } => recv(
+            solo,
+            alloc,
+            generation,
+            bytes.as_slice(),
+            out,
+        ),
         DriveLine::End => Ok(true),
     }
 }
 
-fn put_outcomes(alloc: Global, sid: u32, due: &[Delivered], out: &mut Vec<u8>) -> Result<(), NoMemory>
+fn put_outcomes(
+    alloc: Global,
+    sid: u32,
+    due: &[Delivered],
+    out: &mut Vec<u8>,
+) -> Result<(), NoMemory>
     ensures { OnOk result (out.new.items ≡ out.old.items ++ outcome_lines sid due.now) }
 {
     for d in due {

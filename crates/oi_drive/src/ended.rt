@@ -1,16 +1,20 @@
-ghost use Rattle.std.specs.Prelude.{◌≡◌, ◌++◌, ◌∷◌, [], ℕ, List, Some, IfOk, OnOk, true};
-ghost use Rattle.oi_drive.specs.Endings.{AreEnded, HasCause, IsDrive, IsEndedRun, cause_of, closed_by, closing_text, drive_config, first_world, status_of, stop_text, terminated};
+ghost use Rattle.std.specs.Vec.{vec_capacity};
+ghost use Rattle.std.specs.Prelude.{◌≡◌, ◌<◌, ◌++◌, ◌∷◌, [], ℕ, List, Some, IfOk, OnOk, true};
+ghost use Rattle.oi_base.specs.Counts.{Rose};
+ghost use Rattle.oi_drive.specs.Endings.{AreEnded, Closes, HasCause, IsDrive, IsEndedRun, PutsOut, broken_status, cause_of, closed_by, closing_text, drive_config, first_world, status_of, stop_text, terminated};
+ghost use Rattle.oi_outside.specs.Streams.{IsCounted, behind};
 ghost use Rattle.oi_drive.specs.Runs.{seen};
+ghost use Rattle.oi_drive.specs.declared.runner.Broken.TheVariants.{Write};
 ghost use Rattle.oi_history.specs.Phases.{is_ended};
 ghost use Rattle.oi_session.specs.Sessions.{now_of, run_of};
 
 use crate::acting::hand_out;
 use crate::reading::read_input;
 use crate::runner::{Broken, Runner, Stop};
-use crate::writing::print;
+use crate::writing::write_all;
 use oi_base::{NoMemory, Series};
 use oi_history::{End, SessionConfig};
-use oi_outside::{Sink, Source};
+use oi_outside::{Failed, Sink, Source};
 use oi_script::fault_line;
 use oi_session::{Run, Solo};
 use std::alloc::Global;
@@ -79,7 +83,12 @@ fn status_of(stop: Option<Stop>) -> u8
 }
 
 // The session ends, and all that is due is handed out; adds the lines of the outcomes.
-fn close_session(solo: &mut Solo, alloc: Global, cause: End, out: &mut Vec<u8>) -> Result<(), NoMemory>
+fn close_session(
+    solo: &mut Solo,
+    alloc: Global,
+    cause: End,
+    out: &mut Vec<u8>,
+) -> Result<(), NoMemory>
     ensures ended { is_ended (now_of solo.new).phase ≡ true }
     ensures session { OnOk result (solo.new ≡ closed_by cause solo.old) }
     ensures text { OnOk result (out.new.items ≡ out.old.items ++ closing_text cause solo.old) }
@@ -102,4 +111,138 @@ fn put_stop(alloc: Global, stop: Option<Stop>, out: &mut Vec<u8>) -> Result<(), 
         out.extend_from_slice(fault_line(alloc, 7, line)?.as_slice())?;
     }
     Ok(())
+}
+
+fn write_and_flush<K: Sink>(sink: &mut K, text: &[u8]) -> Result<(), Failed>
+    ensures held { OnOk result (K.held sink.new ≡ behind (K.held sink.old) text.now) }
+    ensures count { IsCounted result (K.faults sink.old) (K.faults sink.new) }
+{
+    write_all(sink, text)?;
+    sink.flush()
+}
+
+// Prints the last text. Answers the status, where a failure of the sink shows if nothing else does.
+fn put_out<K: Sink>(sink: &mut K, text: &[u8], status: u8) -> u8
+    requires { status ≡ 31 → ⊥ }
+    ensures { PutsOut text.now status result (K.held sink.old) (K.held sink.new) (K.faults sink.old) (K.faults sink.new) }
+{
+    match write_and_flush(sink, text) {
+        Ok(()) => status,
+        Err(_) => if status == 0 { 31 } else { status },
+    }
+}
+
+// Ends a run whose input was read. Answers its status.
+fn close_read<K: Sink>(run: &mut Runner, sink: &mut K) -> u8
+    ensures ended { is_ended (now_of run.new.solo).phase ≡ true }
+    ensures closes { Closes (seen run.old) run.new.solo result (K.held sink.old) (K.held sink.new) (K.faults sink.old) (K.faults sink.new) }
+{
+    let stop = run.stop;
+    let mut text = Vec::new(run.alloc);
+    match close_session(&mut run.solo, run.alloc, cause_of(stop), &mut text) {
+        Ok(()) => {}
+        Err(_) => return 3,
+    }
+    match put_stop(run.alloc, stop, &mut text) {
+        Ok(()) => {}
+        Err(_) => return 3,
+    }
+    put_out(sink, &text, status_of(stop))
+}
+
+fn broken_status(broken: Broken) -> u8
+    ensures { result ≡ broken_status broken }
+{
+    match broken {
+        Broken::Memory => 3,
+        Broken::Read => 30,
+        Broken::Write => 31,
+    }
+}
+
+// Ends a run that broke. To a sink that failed nothing more is written.
+fn close_broken<K: Sink>(run: &mut Runner, broken: Broken, sink: &mut K) -> u8
+    ensures ended { is_ended (now_of run.new.solo).phase ≡ true }
+    ensures status { result ≡ broken_status broken }
+    ensures quiet { broken ≡ Write → K.faults sink.new ≡ K.faults sink.old }
+{
+    let status = broken_status(broken);
+    let mut text = Vec::new(run.alloc);
+    let closed = close_session(&mut run.solo, run.alloc, End::Stopped { status }, &mut text);
+    if closed.is_ok() && broken != Broken::Write {
+        put_broken(sink, run.alloc, broken, run.line, &mut text);
+    }
+    status
+}
+
+fn put_broken<K: Sink>(sink: &mut K, alloc: Global, broken: Broken, line: u64, text: &mut Vec<u8>) {
+    if broken == Broken::Read {
+        if let Ok(fault) = fault_line(alloc, 30, line.saturating_add(1)) {
+            let _ = text.extend_from_slice(fault.as_slice());
+        }
+    }
+    let _ = write_and_flush(sink, text);
+}
+
+// Reads the input and ends the session. Answers the status.
+fn replay<S: Source, K: Sink>(run: &mut Runner, source: &mut S, sink: &mut K) -> u8
+    requires { seen run.old ≡ first_world }
+    ensures ended { is_ended (now_of run.new.solo).phase ≡ true }
+    ensures exact { (bytes : List ℕ) → S.left source.old ≡ Some bytes → (Rose (S.faults source.old) (S.faults source.new) → ⊥) → (Rose (K.faults sink.old) (K.faults sink.new) → ⊥)
+        → (result ≡ 3 → ⊥) → IsDrive bytes result (run_of run.new.solo ∷ []) (K.held sink.old) (K.held sink.new) }
+    ensures cause { HasCause result (S.faults source.old) (S.faults source.new) (K.faults sink.old) (K.faults sink.new) }
+{
+    match read_input(run, source, sink) {
+        Ok(()) => close_read(run, sink),
+        Err(broken) => close_broken(run, broken, sink),
+    }
+}
+
+fn without_run(alloc: Global) -> Ended
+    ensures { (result.status ≡ 3) × (result.runs ≡ []) }
+{
+    Ended {
+        status: 3,
+        runs: Series::new(alloc),
+    }
+}
+
+// The one run of a replay.
+fn one_run(solo: Solo, mut room: Vec<Run>) -> Series<Run>
+    requires empty { room.items ≡ [] }
+    requires room { 0 < vec_capacity room }
+    requires ended { is_ended (now_of solo).phase ≡ true }
+    ensures run { result ≡ run_of solo ∷ [] }
+    ensures legal { AreEnded result }
+{
+    let _ = solo.phase();
+    room.push(solo.close()).unwrap();
+    Series::from_vec(room)
+}
+
+fn room_for_one(alloc: Global) -> Result<Vec<Run>, NoMemory>
+    ensures { IfOk result (λ v. (v.items ≡ []) × (0 < vec_capacity v)) }
+{
+    Ok(Vec::with_capacity(alloc, 1)?)
+}
+
+/// Replays a session from its input lines, each line's text written before the next line is read.
+pub fn drive_main<S: Source, K: Sink>(alloc: Global, source: &mut S, sink: &mut K) -> Ended
+    ensures legal { AreEnded result.runs }
+    ensures exact { (bytes : List ℕ) → S.left source.old ≡ Some bytes → (Rose (S.faults source.old) (S.faults source.new) → ⊥) → (Rose (K.faults sink.old) (K.faults sink.new) → ⊥)
+        → (result.status ≡ 3 → ⊥) → IsDrive bytes result.status result.runs (K.held sink.old) (K.held sink.new) }
+    ensures cause { HasCause result.status (S.faults source.old) (S.faults source.new) (K.faults sink.old) (K.faults sink.new) }
+{
+    let Ok(room) = room_for_one(alloc) else {
+        return without_run(alloc);
+    };
+    let Ok(mut run) = open(alloc) else {
+        return without_run(alloc);
+    };
+    let status = replay(&mut run, source, sink);
+    let Runner { solo, .. } = run;
+    Ended {
+        status,
+        runs: one_run(solo, room),
+    }
 }

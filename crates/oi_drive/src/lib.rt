@@ -8,3 +8,5 @@ mod reading;
 mod runner;
 mod taking;
 mod writing;
+
+pub use ended::{Ended, drive_main};

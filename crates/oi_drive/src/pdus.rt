@@ -36,7 +36,10 @@ fn pdu_at(alloc: Global, head: &[u8; 48], bytes: &[u8]) -> Result<Option<Pdu>, N
     let (additional, data) = lengths(head);
     let start = 48 + additional as usize;
     let payload = Blob::from_slice(alloc, segment(bytes, start, data as usize))?;
-    Ok(Some(Pdu { head: header, payload }))
+    Ok(Some(Pdu {
+        head: header,
+        payload,
+    }))
 }
 
 // So many bytes from a place on, as far as they are there.

@@ -12,6 +12,7 @@ use oi_outside::{Sink, Source};
 use std::alloc::Global;
 
 const INPUT_LIMIT: usize = 1_073_741_824;
+
 const BUFFER: usize = 65_536;
 
 // A byte came past the greatest input.
@@ -31,7 +32,13 @@ fn front(buf: &[u8], n: usize) -> &[u8]
 }
 
 // Reads once. Answers how many bytes may still come, or None at the end or the stop.
-fn read_once<S: Source, K: Sink>(run: &mut Runner, source: &mut S, sink: &mut K, buf: &mut [u8], room: usize) -> Result<Option<usize>, Broken>
+fn read_once<S: Source, K: Sink>(
+    run: &mut Runner,
+    source: &mut S,
+    sink: &mut K,
+    buf: &mut [u8],
+    room: usize,
+) -> Result<Option<usize>, Broken>
     requires { 0 < length buf.old }
     ensures { ReadsOnce result room (S.left source.old) (S.left source.new) (seen run.old) (seen run.new) (K.held sink.old) (K.held sink.new)
         (S.faults source.old) (S.faults source.new) (K.faults sink.old) (K.faults sink.new) }
@@ -59,11 +66,19 @@ fn read_once<S: Source, K: Sink>(run: &mut Runner, source: &mut S, sink: &mut K,
         Ok(()) => {}
         Err(broken) => return Err(broken),
     }
-    if run.stop.is_some() { Ok(None) } else { Ok(Some(room - n)) }
+    if run.stop.is_some() {
+        Ok(None)
+    } else {
+        Ok(Some(room - n))
+    }
 }
 
 /// Reads the input to its end or its stop.
-pub fn read_input<S: Source, K: Sink>(run: &mut Runner, source: &mut S, sink: &mut K) -> Result<(), Broken>
+pub fn read_input<S: Source, K: Sink>(
+    run: &mut Runner,
+    source: &mut S,
+    sink: &mut K,
+) -> Result<(), Broken>
     ensures { ReadsAll result input_limit (S.left source.old) (seen run.old) (seen run.new) (K.held sink.old) (K.held sink.new)
         (S.faults source.old) (S.faults source.new) (K.faults sink.old) (K.faults sink.new) }
 {

@@ -1,0 +1,70 @@
+-- A run whose input was read and that was closed is the run of its bytes.
+use Rattle.std.proofs.Common.{◌≡◌, ◌∙◌, ℕ, List, [], ◌∷◌, ◌++◌, Option, Some, sym, ap, subst, refl, arith, ◌<◌}
+use Rattle.oi_base.specs.Counts.{Rose}
+use Rattle.oi_base.specs.Limits.{input_limit}
+use Rattle.oi_drive.proofs.Outputs.{behind-append}
+use Rattle.oi_drive.specs.Endings.{Closes, HasCause, IsDrive, broken_status, cause_of, closed_by, closing_text, drive_world, first_world, status_of, stop_text}
+use Rattle.oi_drive.specs.Inputs.{BreaksBy, Finishes, rest_text, rest_world}
+use Rattle.oi_drive.specs.Worlds.{World}
+use Rattle.oi_drive.specs.declared.runner.Broken.{Broken}
+use Rattle.oi_drive.specs.declared.runner.Broken.TheVariants.{Memory, Read, Write}
+use Rattle.oi_outside.specs.Streams.{behind}
+use Rattle.oi_session.specs.Sessions.{Session, run_of}
+
+abbrev last_text : World → List ℕ
+last_text w = closing_text (cause_of w.stop) w.session ++ stop_text w.stop
+
+drives : (bytes : List ℕ) (w : World) (session : Session) (status : ℕ) (held0 held1 held : Option (List ℕ)) (sink1 sink : ℕ) → w ≡ drive_world bytes → held1 ≡ behind held0 (rest_text input_limit first_world bytes)
+    → Closes w session status held1 held sink1 sink → (Rose sink1 sink → ⊥) → (status ≡ 3 → ⊥) → IsDrive bytes status (run_of session ∷ []) held0 held
+drives bytes w session status held0 held1 held sink1 sink same wrote closes quiet memory = record {
+  run = ap (λ (s : Session). run_of s ∷ []) (closes.session_is memory ∙ ap (λ (z : World). closed_by (cause_of z.stop) z.session) same);
+  text =
+      closes.text quiet memory ∙ (ap (λ (h : Option (List ℕ)). behind h (last_text w)) wrote
+      ∙ (behind-append held0 (rest_text input_limit first_world bytes) (last_text w)
+      ∙ ap (λ (z : World). behind held0 (rest_text input_limit first_world bytes ++ last_text z)) same));
+  status_is = closes.status_is quiet memory ∙ ap (λ (z : World). status_of z.stop) same;
+}
+
+pub closes_exact : (left0 : Option (List ℕ)) (w0 w : World) (session : Session) (status : ℕ) (held0 held1 held : Option (List ℕ)) (sink0 sink1 sink : ℕ) → w0 ≡ first_world
+    → Finishes input_limit left0 w0 w held0 held1 → sink1 ≡ sink0 → Closes w session status held1 held sink1 sink
+    → (bytes : List ℕ) → left0 ≡ Some bytes → (Rose sink0 sink → ⊥) → (status ≡ 3 → ⊥) → IsDrive bytes status (run_of session ∷ []) held0 held
+closes_exact left0 w0 w session status held0 held1 held sink0 sink1 sink first finishes unmoved closes bytes is quiet memory =
+    drives bytes w session status held0 held1 held sink1 sink (finishes.world bytes is ∙ ap (λ (z : World). rest_world input_limit z bytes) first)
+    (finishes.text bytes is ∙ ap (λ (z : World). behind held0 (rest_text input_limit z bytes)) first)
+    closes (λ r. quiet (subst (λ n. Rose n sink) unmoved r)) memory
+
+pub closes_cause : (w : World) (session : Session) (status : ℕ) (held1 held : Option (List ℕ)) (source0 source sink0 sink1 sink : ℕ) → source ≡ source0 → sink1 ≡ sink0
+    → Closes w session status held1 held sink1 sink → HasCause status source0 source sink0 sink
+closes_cause w session status held1 held source0 source sink0 sink1 sink same unmoved closes = record {
+  read = λ is. absurd (closes.read is);
+  write = λ is. subst (λ n. Rose n sink) unmoved (closes.write is);
+  clean = λ is. (same, closes.clean is ∙ unmoved);
+}
+
+pub broken_exact : (b : Broken) (status source0 source sink0 sink1 sink : ℕ) (P : Type 0) → BreaksBy b source0 source sink0 sink1 → status ≡ broken_status b → (b ≡ Write → sink ≡ sink1)
+    → (Rose source0 source → ⊥) → (Rose sink0 sink → ⊥) → (status ≡ 3 → ⊥) → P
+broken_exact Memory status source0 source sink0 sink1 sink P breaks is kept calm quiet memory = absurd (memory is)
+broken_exact Read status source0 source sink0 sink1 sink P breaks is kept calm quiet memory = absurd (calm breaks.0)
+broken_exact Write status source0 source sink0 sink1 sink P breaks is kept calm quiet memory = absurd (quiet (subst (λ n. Rose sink0 n) (sym (kept refl)) breaks.0))
+
+-- one status is not another
+not_3_30 : (P : Type 0) (status : ℕ) → status ≡ 3 → status ≡ 30 → P
+not_3_30 P status p q = absurd (omega arith)
+
+not_3_31 : (P : Type 0) (status : ℕ) → status ≡ 3 → status ≡ 31 → P
+not_3_31 P status p q = absurd (omega arith)
+
+not_30_31 : (P : Type 0) (status : ℕ) → status ≡ 30 → status ≡ 31 → P
+not_30_31 P status p q = absurd (omega arith)
+
+not_0 : (P : Type 0) (status n : ℕ) → 0 < n → status ≡ n → status ≡ 0 → P
+not_0 P status n less p q = absurd (omega arith)
+
+pub broken_cause : (b : Broken) (status source0 source sink0 sink1 sink : ℕ) → BreaksBy b source0 source sink0 sink1 → status ≡ broken_status b → (b ≡ Write → sink ≡ sink1)
+    → HasCause status source0 source sink0 sink
+broken_cause Memory status source0 source sink0 sink1 sink breaks is kept =
+    record { read = λ o. not_3_30 _ status is o; write = λ o. not_3_31 _ status is o; clean = λ o. not_0 _ status 3 (omega arith) is o }
+broken_cause Read status source0 source sink0 sink1 sink breaks is kept =
+    record { read = λ o. breaks.0; write = λ o. not_30_31 _ status is o; clean = λ o. not_0 _ status 30 (omega arith) is o }
+broken_cause Write status source0 source sink0 sink1 sink breaks is kept =
+    record { read = λ o. not_30_31 _ status o is; write = λ o. subst (λ n. Rose sink0 n) (sym (kept refl)) breaks.0; clean = λ o. not_0 _ status 31 (omega arith) is o }
