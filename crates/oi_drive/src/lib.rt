@@ -10,3 +10,4 @@ mod taking;
 mod writing;
 
 pub use ended::{Ended, drive_main};
+pub use writing::write_all;
