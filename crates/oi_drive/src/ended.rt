@@ -1,5 +1,5 @@
 ghost use Rattle.std.specs.Vec.{vec_capacity};
-ghost use Rattle.std.specs.Prelude.{◌≡◌, ◌<◌, ◌++◌, ◌∷◌, [], ℕ, List, Some, IfOk, OnOk, true};
+ghost use Rattle.std.specs.Prelude.{◌≡◌, ◌<◌, length, ◌++◌, ◌∷◌, [], ℕ, List, Some, IfOk, OnOk, true};
 ghost use Rattle.oi_base.specs.Counts.{Rose};
 ghost use Rattle.oi_drive.specs.Endings.{AreEnded, Closes, HasCause, IsDrive, IsEndedRun, PutsOut, broken_status, cause_of, closed_by, closing_text, drive_config, first_world, status_of, stop_text, terminated};
 ghost use Rattle.oi_outside.specs.Streams.{IsCounted, behind};
@@ -229,6 +229,7 @@ fn room_for_one(alloc: Global) -> Result<Vec<Run>, NoMemory>
 /// Replays a session from its input lines, each line's text written before the next line is read.
 pub fn drive_main<S: Source, K: Sink>(alloc: Global, source: &mut S, sink: &mut K) -> Ended
     ensures legal { AreEnded result.runs }
+    ensures one { (result.status ≡ 3 → ⊥) → length result.runs ≡ 1 }
     ensures exact { (bytes : List ℕ) → S.left source.old ≡ Some bytes → (Rose (S.faults source.old) (S.faults source.new) → ⊥) → (Rose (K.faults sink.old) (K.faults sink.new) → ⊥)
         → (result.status ≡ 3 → ⊥) → IsDrive bytes result.status result.runs (K.held sink.old) (K.held sink.new) }
     ensures cause { HasCause result.status (S.faults source.old) (S.faults source.new) (K.faults sink.old) (K.faults sink.new) }

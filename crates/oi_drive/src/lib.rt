@@ -7,6 +7,8 @@ mod pdus;
 mod reading;
 mod runner;
 mod taking;
+#[cfg(test)]
+mod tests;
 mod writing;
 
 pub use ended::{Ended, drive_main};

@@ -51,7 +51,7 @@ impl<W: Write + Drop> StdSink<W> {
 }
 
 impl<W: Write + Drop> Sink for StdSink<W> {
-    ghost use Rattle.std.specs.Prelude.{◌<◌, ◌≡◌, None, length};
+    ghost use Rattle.std.specs.Prelude.{◌<◌, ◌≡◌, ℕ, List, None, Option, length};
     ghost use Rattle.oi_outside.specs.Streams.{IsCounted, Writes};
 
     ghost held = { λ _. None };
@@ -73,7 +73,7 @@ impl<W: Write + Drop> Sink for StdSink<W> {
     }
 
     fn flush(&mut self) -> Result<(), Failed>
-        ensures held { None ≡ None }
+        ensures held { ◌≡◌ {A = Option (List ℕ)} None None }
         ensures count { IsCounted result self.old.faults self.new.faults }
     {
         match self.writer.flush() {
