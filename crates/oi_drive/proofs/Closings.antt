@@ -41,9 +41,9 @@ closes_cause w session status held1 held source0 source sink0 sink1 sink same un
   clean = λ is. (same, closes.clean is ∙ unmoved);
 }
 
-pub broken_exact : (b : Broken) (status source0 source sink0 sink1 sink : ℕ) (P : Type 0) → BreaksBy b source0 source sink0 sink1 → status ≡ broken_status b → (b ≡ Write → sink ≡ sink1)
+pub broken_exact : (b : Broken) (status source0 source sink0 sink1 sink : ℕ) (P : Type 0) → BreaksBy b source0 source sink0 sink1 → ((status ≡ 3 → ⊥) → status ≡ broken_status b) → (b ≡ Write → sink ≡ sink1)
     → (Rose source0 source → ⊥) → (Rose sink0 sink → ⊥) → (status ≡ 3 → ⊥) → P
-broken_exact Memory status source0 source sink0 sink1 sink P breaks is kept calm quiet memory = absurd (memory is)
+broken_exact Memory status source0 source sink0 sink1 sink P breaks is kept calm quiet memory = absurd (memory (is memory))
 broken_exact Read status source0 source sink0 sink1 sink P breaks is kept calm quiet memory = absurd (calm breaks.0)
 broken_exact Write status source0 source sink0 sink1 sink P breaks is kept calm quiet memory = absurd (quiet (subst (λ n. Rose sink0 n) (sym (kept refl)) breaks.0))
 
@@ -60,11 +60,20 @@ not_30_31 P status p q = absurd (omega arith)
 not_0 : (P : Type 0) (status n : ℕ) → 0 < n → status ≡ n → status ≡ 0 → P
 not_0 P status n less p q = absurd (omega arith)
 
-pub broken_cause : (b : Broken) (status source0 source sink0 sink1 sink : ℕ) → BreaksBy b source0 source sink0 sink1 → status ≡ broken_status b → (b ≡ Write → sink ≡ sink1)
+pub broken_cause : (b : Broken) (status source0 source sink0 sink1 sink : ℕ) → BreaksBy b source0 source sink0 sink1 → ((status ≡ 3 → ⊥) → status ≡ broken_status b) → (b ≡ Write → sink ≡ sink1)
     → HasCause status source0 source sink0 sink
-broken_cause Memory status source0 source sink0 sink1 sink breaks is kept =
-    record { read = λ o. not_3_30 _ status is o; write = λ o. not_3_31 _ status is o; clean = λ o. not_0 _ status 3 (omega arith) is o }
-broken_cause Read status source0 source sink0 sink1 sink breaks is kept =
-    record { read = λ o. breaks.0; write = λ o. not_30_31 _ status is o; clean = λ o. not_0 _ status 30 (omega arith) is o }
-broken_cause Write status source0 source sink0 sink1 sink breaks is kept =
-    record { read = λ o. not_30_31 _ status o is; write = λ o. subst (λ n. Rose sink0 n) (sym (kept refl)) breaks.0; clean = λ o. not_0 _ status 31 (omega arith) is o }
+broken_cause Memory status source0 source sink0 sink1 sink breaks is kept = record {
+  read = λ o. not_3_30 _ status (is (λ m. not_3_30 ⊥ status m o)) o;
+  write = λ o. not_3_31 _ status (is (λ m. not_3_31 ⊥ status m o)) o;
+  clean = λ o. not_0 _ status 3 (omega arith) (is (λ m. not_0 ⊥ status 3 (omega arith) m o)) o;
+}
+broken_cause Read status source0 source sink0 sink1 sink breaks is kept = record {
+  read = λ o. breaks.0;
+  write = λ o. not_30_31 _ status (is (λ m. not_3_31 ⊥ status m o)) o;
+  clean = λ o. not_0 _ status 30 (omega arith) (is (λ m. not_0 ⊥ status 3 (omega arith) m o)) o;
+}
+broken_cause Write status source0 source sink0 sink1 sink breaks is kept = record {
+  read = λ o. not_30_31 _ status o (is (λ m. not_3_30 ⊥ status m o));
+  write = λ o. subst (λ n. Rose sink0 n) (sym (kept refl)) breaks.0;
+  clean = λ o. not_0 _ status 31 (omega arith) (is (λ m. not_0 ⊥ status 3 (omega arith) m o)) o;
+}

@@ -1,3 +1,4 @@
+pub mod Answered
 pub mod Configs
 pub mod Outputs
 pub mod Repeats

@@ -1,3 +1,4 @@
+pub mod Answered
 pub mod Acts
 pub mod Endings
 pub mod Inputs

@@ -1,6 +1,8 @@
 ghost use Rattle.std.specs.Vec.{vec_capacity};
 ghost use Rattle.std.specs.Prelude.{◌≡◌, ◌<◌, length, ◌++◌, ◌∷◌, [], ℕ, List, Some, IfOk, OnOk, true};
 ghost use Rattle.oi_base.specs.Counts.{Rose};
+ghost use Rattle.oi_drive.specs.Answered.{AreAnswered, AreOnce};
+ghost use Rattle.oi_history.specs.Tasks.{due_in};
 ghost use Rattle.oi_drive.specs.Endings.{AreEnded, Closes, HasCause, IsDrive, IsEndedRun, PutsOut, broken_status, cause_of, closed_by, closing_text, drive_config, first_world, status_of, stop_text, terminated};
 ghost use Rattle.oi_outside.specs.Streams.{IsCounted, behind};
 ghost use Rattle.oi_drive.specs.Runs.{seen};
@@ -92,6 +94,7 @@ fn close_session(
     ensures ended { is_ended (now_of solo.new).phase ≡ true }
     ensures session { OnOk result (solo.new ≡ closed_by cause solo.old) }
     ensures text { OnOk result (out.new.items ≡ out.old.items ++ closing_text cause solo.old) }
+    ensures settled { OnOk result (due_in (now_of solo.new).tasks ≡ []) }
 {
     terminate(solo, cause);
     hand_out(solo, alloc, out)
@@ -135,6 +138,7 @@ fn put_out<K: Sink>(sink: &mut K, text: &[u8], status: u8) -> u8
 // Ends a run whose input was read. Answers its status.
 fn close_read<K: Sink>(run: &mut Runner, sink: &mut K) -> u8
     ensures ended { is_ended (now_of run.new.solo).phase ≡ true }
+    ensures settled { (result ≡ 3 → ⊥) → due_in (now_of run.new.solo).tasks ≡ [] }
     ensures closes { Closes (seen run.old) run.new.solo result (K.held sink.old) (K.held sink.new) (K.faults sink.old) (K.faults sink.new) }
 {
     let stop = run.stop;
@@ -163,13 +167,17 @@ fn broken_status(broken: Broken) -> u8
 // Ends a run that broke. To a sink that failed nothing more is written.
 fn close_broken<K: Sink>(run: &mut Runner, broken: Broken, sink: &mut K) -> u8
     ensures ended { is_ended (now_of run.new.solo).phase ≡ true }
-    ensures status { result ≡ broken_status broken }
+    ensures settled { (result ≡ 3 → ⊥) → due_in (now_of run.new.solo).tasks ≡ [] }
+    ensures status { (result ≡ 3 → ⊥) → result ≡ broken_status broken }
     ensures quiet { broken ≡ Write → K.faults sink.new ≡ K.faults sink.old }
 {
     let status = broken_status(broken);
     let mut text = Vec::new(run.alloc);
-    let closed = close_session(&mut run.solo, run.alloc, End::Stopped { status }, &mut text);
-    if closed.is_ok() && broken != Broken::Write {
+    match close_session(&mut run.solo, run.alloc, End::Stopped { status }, &mut text) {
+        Ok(()) => {}
+        Err(_) => return 3,
+    }
+    if broken != Broken::Write {
         put_broken(sink, run.alloc, broken, run.line, &mut text);
     }
     status
@@ -188,6 +196,7 @@ fn put_broken<K: Sink>(sink: &mut K, alloc: Global, broken: Broken, line: u64, t
 fn replay<S: Source, K: Sink>(run: &mut Runner, source: &mut S, sink: &mut K) -> u8
     requires { seen run.old ≡ first_world }
     ensures ended { is_ended (now_of run.new.solo).phase ≡ true }
+    ensures settled { (result ≡ 3 → ⊥) → due_in (now_of run.new.solo).tasks ≡ [] }
     ensures exact { (bytes : List ℕ) → S.left source.old ≡ Some bytes → (Rose (S.faults source.old) (S.faults source.new) → ⊥) → (Rose (K.faults sink.old) (K.faults sink.new) → ⊥)
         → (result ≡ 3 → ⊥) → IsDrive bytes result (run_of run.new.solo ∷ []) (K.held sink.old) (K.held sink.new) }
     ensures cause { HasCause result (S.faults source.old) (S.faults source.new) (K.faults sink.old) (K.faults sink.new) }
@@ -208,12 +217,15 @@ fn without_run(alloc: Global) -> Ended
 }
 
 // The one run of a replay.
+#[tactic(auto, using(crate::proofs::Answered::once_of, crate::proofs::Answered::answered_of))]
 fn one_run(solo: Solo, mut room: Vec<Run>) -> Series<Run>
     requires empty { room.items ≡ [] }
     requires room { 0 < vec_capacity room }
     requires ended { is_ended (now_of solo).phase ≡ true }
     ensures run { result ≡ run_of solo ∷ [] }
     ensures legal { AreEnded result }
+    ensures once { AreOnce result }
+    ensures every { due_in (now_of solo).tasks ≡ [] → AreAnswered result }
 {
     let _ = solo.phase();
     room.push(solo.close()).unwrap();
@@ -229,6 +241,8 @@ fn room_for_one(alloc: Global) -> Result<Vec<Run>, NoMemory>
 /// Replays a session from its input lines, each line's text written before the next line is read.
 pub fn drive_main<S: Source, K: Sink>(alloc: Global, source: &mut S, sink: &mut K) -> Ended
     ensures legal { AreEnded result.runs }
+    ensures once { AreOnce result.runs }
+    ensures every { (result.status ≡ 3 → ⊥) → AreAnswered result.runs }
     ensures one { (result.status ≡ 3 → ⊥) → length result.runs ≡ 1 }
     ensures exact { (bytes : List ℕ) → S.left source.old ≡ Some bytes → (Rose (S.faults source.old) (S.faults source.new) → ⊥) → (Rose (K.faults sink.old) (K.faults sink.new) → ⊥)
         → (result.status ≡ 3 → ⊥) → IsDrive bytes result.status result.runs (K.held sink.old) (K.held sink.new) }

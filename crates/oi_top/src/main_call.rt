@@ -1,5 +1,6 @@
 ghost use Rattle.std.specs.Prelude.{◌≡◌, length, ℕ, List, Some, OnOk, codes, true, false};
 ghost use Rattle.oi_base.specs.Counts.{Rose};
+ghost use Rattle.oi_drive.specs.Answered.{AreAnswered, AreOnce};
 ghost use Rattle.oi_drive.specs.Endings.{AreEnded, HasCause, IsDrive};
 ghost use Rattle.oi_outside.specs.Streams.{IsCounted, behind};
 ghost use Rattle.oi_top.specs.Words.{IsRefused, is_drive};
@@ -45,6 +46,8 @@ pub fn iscsi_main<S: Source, K: Sink>(
     sink: &mut K,
 ) -> Ended
     ensures legal { AreEnded result.runs }
+    ensures once { AreOnce result.runs }
+    ensures every { (result.status ≡ 3 → ⊥) → AreAnswered result.runs }
     ensures one { is_drive words.now ≡ true → (result.status ≡ 3 → ⊥) → length result.runs ≡ 1 }
     ensures exact { is_drive words.now ≡ true → (bytes : List ℕ) → S.left source.old ≡ Some bytes → (Rose (S.faults source.old) (S.faults source.new) → ⊥)
         → (Rose (K.faults sink.old) (K.faults sink.new) → ⊥) → (result.status ≡ 3 → ⊥) → IsDrive bytes result.status result.runs (K.held sink.old) (K.held sink.new) }

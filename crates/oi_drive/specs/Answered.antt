@@ -1,0 +1,19 @@
+-- How often the submissions of runs were answered.
+use Rattle.std.specs.Prelude.{◌≡◌, ◌≤◌, ◌<◌, ℕ, List, [], ◌∷◌, length}
+use Rattle.oi_laws.specs.Answers.{times}
+use Rattle.oi_session.specs.Sessions.{RunView, Session, now_of, run_of}
+
+-- no submission of a run was answered twice
+abbrev pub AreOnce : List RunView → Type 0
+AreOnce [] = Unit {0}
+AreOnce (r ∷ rs) = ((id : ℕ) → times id r.delivered ≤ 1) × AreOnce rs
+
+-- each submission of the run was answered exactly once
+pub record IsAnswered (r : RunView) : Type 0 where
+  pub session : Session
+  pub is : r ≡ run_of session
+  pub once : (id : ℕ) → id < length (now_of session).tasks → times id r.delivered ≡ 1
+
+abbrev pub AreAnswered : List RunView → Type 0
+AreAnswered [] = Unit {0}
+AreAnswered (r ∷ rs) = IsAnswered r × AreAnswered rs
