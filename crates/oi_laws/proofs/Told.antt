@@ -182,7 +182,7 @@ if_sound : (b : Bool) (xs ys : List Task) → AreSound xs → AreSound ys → Ar
 if_sound true xs ys p q = p
 if_sound false xs ys p q = q
 
-waiting_at : (ts : List Task) (id : ℕ) (t : Task) → waiting_in ts ≡ Some id → slice_get ts id ≡ Some t → is_waiting t.fate ≡ true
+pub waiting_at : (ts : List Task) (id : ℕ) (t : Task) → waiting_in ts ≡ Some id → slice_get ts id ≡ Some t → is_waiting t.fate ≡ true
 waiting_at ts id t is at =
     let found = position-Some (λ (x : Task). is_waiting x.fate) ts id t is in
     subst (λ (x : Task). is_waiting x.fate ≡ true) (get_or_from_slice_get ts id t t at) found.1
