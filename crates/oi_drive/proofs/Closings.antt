@@ -1,9 +1,12 @@
 -- A run whose input was read and that was closed is the run of its bytes.
-use Rattle.std.proofs.Common.{◌≡◌, ◌∙◌, ℕ, List, [], ◌∷◌, ◌++◌, Option, Some, sym, ap, subst, refl, arith, ◌<◌}
+use Rattle.std.proofs.Common.{◌≡◌, ◌∙◌, ℕ, List, [], ◌∷◌, ◌++◌, ◌+◌, suc, length, take, Option, Some, None, sym, ap, subst, refl, arith, ◌<◌}
 use Rattle.oi_base.specs.Counts.{Rose}
 use Rattle.oi_base.specs.Limits.{input_limit}
 use Rattle.oi_drive.proofs.Outputs.{behind-append}
-use Rattle.oi_drive.specs.Endings.{Closes, HasCause, IsDrive, broken_status, cause_of, closed_by, closing_text, drive_world, first_world, status_of, stop_text}
+use Rattle.oi_drive.specs.Parts.{BrokeOff, IsFront}
+use Rattle.oi_drive.proofs.Requests.{broken_asks, whole_asks}
+use Rattle.oi_history.specs.declared.phase.End.TheVariants.{Stopped}
+use Rattle.oi_drive.specs.Endings.{Closes, ClosesBroken, ClosesPartly, FailedBy, HasCause, IsDrive, IsEndedBy, IsLeft, broken_status, cause_of, closed_by, closing_text, drive_world, first_world, status_of, stop_text}
 use Rattle.oi_drive.specs.Inputs.{BreaksBy, Finishes, rest_text, rest_world}
 use Rattle.oi_drive.specs.Worlds.{World}
 use Rattle.oi_drive.specs.declared.runner.Broken.{Broken}
@@ -77,3 +80,69 @@ broken_cause Write status source0 source sink0 sink1 sink breaks is kept = recor
   write = λ o. subst (λ n. Rose sink0 n) (sym (kept refl)) breaks.0;
   clean = λ o. not_0 _ status 31 (omega arith) (is (λ m. not_0 ⊥ status 3 (omega arith) m o)) o;
 }
+
+front_behind : (xs ys : List ℕ) (k : ℕ) → take (length xs + k) (xs ++ ys) ≡ xs ++ take k ys
+front_behind [] ys k = ap (λ n. take n ys) (omega arith)
+front_behind (x ∷ xs) ys k = ap (λ n. take n (x ∷ xs ++ ys)) (one_less (length xs) k) ∙ ap (λ (z : List ℕ). x ∷ z) (front_behind xs ys k)
+  where
+    one_less : (n k : ℕ) → suc n + k ≡ suc (n + k)
+    one_less n k = omega arith
+
+-- a text that is held, and a front of a further one
+both_fronts : (first last : List ℕ) (held0 held1 held : Option (List ℕ)) → held1 ≡ behind held0 first → IsFront last held1 held → IsFront (first ++ last) held0 held
+both_fronts first last held0 held1 held wrote f = record {
+  count = length first + f.count;
+  is = f.is ∙ (ap (λ (h : Option (List ℕ)). behind h (take f.count last)) wrote ∙ (behind-append held0 first (take f.count last)
+      ∙ ap (λ (z : List ℕ). behind held0 z) (sym (front_behind first last f.count))));
+}
+
+-- a run that read its whole input
+pub whole_left : (left0 left : Option (List ℕ)) (w0 w : World) (session : Session) (status : ℕ) (held0 held1 held : Option (List ℕ)) (source0 source sink0 sink : ℕ) → w0 ≡ first_world
+    → Finishes input_limit left0 w0 w held0 held1 → source ≡ source0 → ClosesPartly w session held1 held → IsLeft left0 left session status held0 held source0 source sink0 sink
+whole_left left0 left w0 w session status held0 held1 held source0 source sink0 sink first finishes quiet closes = record {
+  broken = None;
+  by = record {
+    entries = λ bytes is.
+        let same = finishes.world bytes is ∙ ap (λ (z : World). rest_world input_limit z bytes) first in
+        subst (λ (z : World). IsEndedBy (cause_of z.stop) z.session session) same closes.entries;
+    requests = λ bytes is.
+        let same = finishes.world bytes is ∙ ap (λ (z : World). rest_world input_limit z bytes) first in
+        whole_asks first_world bytes (cause_of (drive_world bytes).stop) session refl (subst (λ (z : World). IsEndedBy (cause_of z.stop) z.session session) same closes.entries);
+    text = λ bytes is.
+        let same = finishes.world bytes is ∙ ap (λ (z : World). rest_world input_limit z bytes) first in
+        let wrote = finishes.text bytes is ∙ ap (λ (z : World). behind held0 (rest_text input_limit z bytes)) first in
+        both_fronts (rest_text input_limit first_world bytes) (last_text (drive_world bytes)) held0 held1 held wrote (subst (λ (z : World). IsFront (last_text z) held1 held) same closes.front);
+    source_same = quiet;
+  };
+}
+
+failed_by : (b : Broken) (status source0 source sink0 sink1 sink : ℕ) → BreaksBy b source0 source sink0 sink1 → (b ≡ Write → sink ≡ sink1) → (b ≡ Memory → status ≡ 3) → FailedBy b status source0 source sink0 sink
+failed_by Read status source0 source sink0 sink1 sink breaks kept memory = breaks.0
+failed_by Write status source0 source sink0 sink1 sink breaks kept memory = (subst (λ n. Rose sink0 n) (sym (kept refl)) breaks.0, breaks.1)
+failed_by Memory status source0 source sink0 sink1 sink breaks kept memory = (memory refl, breaks.0)
+
+sink_from : (b : Broken) (source0 source sink0 sink1 sink : ℕ) → BreaksBy b source0 source sink0 sink1 → b ≡ Read → Rose sink1 sink → Rose sink0 sink
+sink_from Read source0 source sink0 sink1 sink breaks is rose = subst (λ n. Rose n sink) breaks.1 rose
+sink_from Write source0 source sink0 sink1 sink breaks is rose = absurd cc
+sink_from Memory source0 source sink0 sink1 sink breaks is rose = absurd cc
+
+-- a run that broke off
+pub partly_left : (b : Broken) (left0 left : Option (List ℕ)) (w0 v : World) (session : Session) (status : ℕ) (held0 held1 held : Option (List ℕ)) (source0 source sink0 sink1 sink : ℕ) → w0 ≡ first_world
+    → BreaksBy b source0 source sink0 sink1 → BrokeOff b left0 left w0 v held0 held1 → ClosesBroken b v session status held1 held sink1 sink → (b ≡ Write → sink ≡ sink1) → (b ≡ Memory → status ≡ 3)
+    → IsLeft left0 left session status held0 held source0 source sink0 sink
+partly_left b left0 left w0 v session status held0 held1 held source0 source sink0 sink1 sink first breaks broke closes kept memory = record {
+  broken = Some b;
+  by = record {
+    before = v;
+    printed = held1;
+    broke = off;
+    entries = closes.entries;
+    requests = broken_asks first_world off.fed (Stopped (broken_status b)) v.session session refl off.partly.entries closes.entries;
+    front = closes.front;
+    text = λ is quiet calm. closes.text is (λ rose. quiet (sink_from b source0 source sink0 sink1 sink breaks is rose)) calm;
+    cause = failed_by b status source0 source sink0 sink1 sink breaks kept memory;
+  };
+}
+  where
+    off : BrokeOff b left0 left first_world v held0 held1
+    off = subst (λ (z : World). BrokeOff b left0 left z v held0 held1) first broke

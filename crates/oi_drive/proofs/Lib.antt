@@ -1,7 +1,10 @@
 pub mod Answered
 pub mod Configs
 pub mod Outputs
+pub mod Parts
 pub mod Repeats
+pub mod Requests
 pub mod Readings
+pub mod Breaks
 pub mod Takings
 pub mod Closings

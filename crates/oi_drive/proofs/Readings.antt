@@ -2,7 +2,7 @@
 use Rattle.std.proofs.Common.{◌≡◌, ◌∙◌, ◌+◌, ℕ, suc, zero, Bool, true, false, List, [], ◌∷◌, ◌++◌, Option, Some, None, length, take, sym, ap, subst, refl, arith, append-nil, append_assoc, length-append, nat_le, if◌then◌else◌, is_some}
 use Rattle.std.proofs.lemmas.Bool.Decides.{nat_tests}
 use Rattle.oi_base.specs.Counts.{Rose}
-use Rattle.oi_drive.proofs.Outputs.{behind-append}
+use Rattle.oi_drive.proofs.Outputs.{behind-append, behind_none}
 use Rattle.oi_drive.specs.Inputs.{BreaksBy, Finishes, GoesOn, rest_text, rest_world}
 use Rattle.oi_drive.specs.Worlds.{World, byte_text, feed, feed_byte, feed_text, input_end, input_end_text, input_over}
 use Rattle.oi_drive.specs.declared.runner.Broken.{Broken}
@@ -120,13 +120,42 @@ pub record Rest (limit room : ℕ) (left : Option (List ℕ)) (w0 w : World) (he
   pub world : rest_world room w more ≡ rest_world limit w0 bytes
   pub text : behind held (rest_text room w more) ≡ behind held0 (rest_text limit w0 bytes)
 
+-- these bytes were taken, and all of them count
+pub record IsFed (left0 left : Option (List ℕ)) (w0 w : World) (held0 held : Option (List ℕ)) : Type 0 where
+  pub fed : List ℕ
+  pub moved : left0 ≡ in_front fed left
+  pub world : w ≡ feed w0 fed
+  pub text : held ≡ behind held0 (feed_text w0 fed)
+
 pub record IsGoing (limit room : ℕ) (left0 left : Option (List ℕ)) (w0 w : World) (held0 held : Option (List ℕ)) (source0 source sink0 sink : ℕ) : Type 0 where
   pub rest : (bytes : List ℕ) → left0 ≡ Some bytes → Rest limit room left w0 w held0 held bytes
+  pub so_far : IsFed left0 left w0 w held0 held
   pub source_same : source ≡ source0
   pub sink_same : sink ≡ sink0
 
+nothing_in_front : (o : Option (List ℕ)) → o ≡ in_front [] o
+nothing_in_front None = refl
+nothing_in_front (Some rest) = refl
+
+fed_first : (left : Option (List ℕ)) (w : World) (held : Option (List ℕ)) → IsFed left left w w held held
+fed_first left w held = record { fed = []; moved = nothing_in_front left; world = refl; text = sym (behind_none held) }
+
+in_front_of : (xs ys : List ℕ) (o : Option (List ℕ)) → in_front xs (in_front ys o) ≡ in_front (xs ++ ys) o
+in_front_of xs ys None = refl
+in_front_of xs ys (Some rest) = ap (λ (z : List ℕ). Some z) (sym (append_assoc xs ys rest))
+
+fed_more : (left0 left left1 : Option (List ℕ)) (w0 w w1 : World) (held0 held held1 : Option (List ℕ)) (piece : List ℕ) → IsFed left0 left w0 w held0 held → left ≡ in_front piece left1 → w1 ≡ feed w piece
+    → held1 ≡ behind held (feed_text w piece) → IsFed left0 left1 w0 w1 held0 held1
+fed_more left0 left left1 w0 w w1 held0 held held1 piece f moved goes wrote = record {
+  fed = f.fed ++ piece;
+  moved = f.moved ∙ (ap (λ (z : Option (List ℕ)). in_front f.fed z) moved ∙ in_front_of f.fed piece left1);
+  world = goes ∙ (ap (λ (z : World). feed z piece) f.world ∙ sym (feed-append w0 f.fed piece));
+  text = wrote ∙ (ap (λ (z : Option (List ℕ)). behind z (feed_text w piece)) f.text ∙ (behind-append held0 (feed_text w0 f.fed) (feed_text w piece)
+      ∙ (ap (λ (z : World). behind held0 (feed_text w0 f.fed ++ feed_text z piece)) f.world ∙ ap (λ (z : List ℕ). behind held0 z) (sym (feed_text-append w0 f.fed piece)))));
+}
+
 pub going_first : (limit : ℕ) (left : Option (List ℕ)) (w : World) (held : Option (List ℕ)) (source sink : ℕ) → IsGoing limit limit left left w w held held source source sink sink
-going_first limit left w held source sink = record { rest = λ bytes is. record { more = bytes; is = is; world = refl; text = refl }; source_same = refl; sink_same = refl }
+going_first limit left w held source sink = record { rest = λ bytes is. record { more = bytes; is = is; world = refl; text = refl }; so_far = fed_first left w held; source_same = refl; sink_same = refl }
 
 pub going_more : (limit room less : ℕ) (left0 left left1 : Option (List ℕ)) (w0 w w1 : World) (held0 held held1 : Option (List ℕ)) (source0 source source1 sink0 sink sink1 : ℕ)
     → IsGoing limit room left0 left w0 w held0 held source0 source sink0 sink → GoesOn room less left left1 w w1 held held1 → source1 ≡ source → sink1 ≡ sink
@@ -146,6 +175,7 @@ going_more limit room less left0 left left1 w0 w w1 held0 held held1 source0 sou
             ∙ (ap (λ (z : List ℕ). behind held z) (sym (rest_text_more room less w go.piece b.more go.count))
             ∙ (ap (λ (z : List ℕ). behind held (rest_text room w z)) (sym b.whole) ∙ old.text))));
       };
+  so_far = fed_more left0 left left1 w0 w w1 held0 held held1 go.piece r.so_far go.moved go.world go.text;
   source_same = same_source ∙ r.source_same;
   sink_same = same_sink ∙ r.sink_same;
 }

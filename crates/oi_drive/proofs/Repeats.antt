@@ -1,7 +1,9 @@
 -- Transmissions one after another.
-use Rattle.std.proofs.Common.{◌≡◌, ◌∙◌, ◌+◌, ◌-◌, ◌<◌, ℕ, suc, Bool, true, false, List, ◌++◌, Option, Some, None, sym, ap, subst, refl, arith, append_assoc, append-nil, slice_get, not, if◌then◌else◌}
+use Rattle.std.proofs.Common.{◌≡◌, ◌⊎◌, inl, inr, ◌∙◌, ◌+◌, ◌-◌, ◌<◌, ℕ, suc, Bool, true, false, List, ◌++◌, Option, Some, None, sym, ap, subst, refl, arith, OnErr, Result, Ok, Err, append_assoc, append-nil, slice_get, not, if◌then◌else◌}
 use Rattle.std.specs.Option.{option_map_or}
 use Rattle.oi_base.specs.declared.tag.Tag.{Tag}
+use Rattle.oi_drive.proofs.Parts.{both, first_sent, same, sent_more, sent_one}
+use Rattle.oi_drive.specs.Parts.{Extends, IsBetween}
 use Rattle.oi_drive.specs.Worlds.{sends, sends_text}
 use Rattle.oi_history.specs.Phases.{is_logged_in, phase_after}
 use Rattle.oi_history.specs.Tasks.{waiting_in}
@@ -54,16 +56,18 @@ sends_text_end count i g s h is =
 -- after i of so many transmissions, the rest leads to what all lead to
 pub record IsSending (g count i : ℕ) (first now : Session) (before after : List ℕ) : Type 0 where
   pub live : is_logged_in (now_of now).phase g ≡ true
+  pub made : Extends first now
   pub session : sends (count - i) g now ≡ sends count g first
   pub text : after ++ sends_text (count - i) g now ≡ before ++ sends_text count g first
 
 pub sending_first : (g count : ℕ) (s : Session) (out : List ℕ) → is_logged_in (now_of s).phase g ≡ true → IsSending g count 0 s s out out
-sending_first g count s out live = record { live = live; session = ap (λ n. sends n g s) (omega arith); text = ap (λ n. out ++ sends_text n g s) (omega arith) }
+sending_first g count s out live = record { live = live; made = same s; session = ap (λ n. sends n g s) (omega arith); text = ap (λ n. out ++ sends_text n g s) (omega arith) }
 
 pub sending_more : (g count i : ℕ) (first old new : Session) (before mid after : List ℕ) (e : Event) → i < count → IsSending g count i first old before mid → next_to_send g (now_of (reaped old)) ≡ Some e
     → new ≡ entered (reaped old) e → after ≡ mid ++ tx_text g (sent_bytes (now_of (reaped old)) e) → IsSending g count (i + 1) first new before after
 sending_more g count i first old new before mid after e h r is session text = record {
   live = subst (λ (s : Session). is_logged_in (now_of s).phase g ≡ true) (sym session) (stays_logged_in g old e r.live is);
+  made = both first old new r.made (subst (λ (s : Session). Extends old s) (sym session) (sent_one old e));
   session = ap (λ (s : Session). sends (count - (i + 1)) g s) session ∙ (sym (sends_on count i g old e h is) ∙ r.session);
   text = ap (λ (s : Session). after ++ sends_text (count - (i + 1)) g s) session
       ∙ (ap (λ (z : List ℕ). z ++ sends_text (count - (i + 1)) g (entered (reaped old) e)) text
@@ -88,6 +92,18 @@ sending_over g count i first now before after same r =
     let none : count - i ≡ 0 = omega arith in
     record { session = ap (λ n. sends n g now) (sym none) ∙ r.session; text = sym (append-nil after) ∙ (ap (λ n. after ++ sends_text n g now) (sym none) ∙ r.text) }
 
+broke_at : (n g : ℕ) (old new : Session) → (new ≡ old) ⊎ (new ≡ sends 1 g old) → IsBetween old (sends (suc n) g old) new
+broke_at n g old new (inl is) = subst (λ (s : Session). IsBetween old (sends (suc n) g old) s) (sym is) (record { made = same old; rest = sent_more (suc n) g old })
+broke_at n g old new (inr is) = subst (λ (s : Session). IsBetween old (sends (suc n) g old) s) (sym is) (record { made = sent_more 1 g old; rest = first_sent n g old })
+
+-- a transmission broke
+pub sending_broke : (g count i : ℕ) (first old new : Session) (before mid : List ℕ) → i < count → IsSending g count i first old before mid → (new ≡ old) ⊎ (new ≡ sends 1 g old)
+    → IsBetween first (sends count g first) new
+sending_broke g count i first old new before mid h r broke =
+    let part = broke_at (count - (i + 1)) g old new broke in
+    let whole : sends (suc (count - (i + 1))) g old ≡ sends count g first = ap (λ n. sends n g old) (sym (one_less count i h)) ∙ r.session in
+    record { made = both first old new r.made part.made; rest = subst (λ (s : Session). Extends new s) whole part.rest }
+
 pub not_false : (b : Bool) → not b ≡ false → b ≡ true
 not_false true e = refl
 not_false false e = absurd cc
@@ -95,3 +111,7 @@ not_false false e = absurd cc
 pub not_true : (b : Bool) → not b ≡ true → b ≡ false
 not_true false e = refl
 not_true true e = absurd cc
+
+pub on_error : {T E : Type 0} (r : Result T E) (P : Type 0) → P → OnErr r P
+on_error (Ok x) P p = tt
+on_error (Err e) P p = p

@@ -1,9 +1,11 @@
 -- What a run of `drive` comes to: why it ended, its status, its last text.
-use Rattle.std.specs.Prelude.{◌≡◌, ℕ, true, ◌++◌, List, [], ◌∷◌, Option, Some, None, pos, if◌then◌else◌}
+use Rattle.std.specs.Prelude.{◌≡◌, ◌⊎◌, ℕ, true, ◌++◌, List, [], ◌∷◌, take, Option, Some, None, pos, if◌then◌else◌}
 use Rattle.oi_base.specs.Counts.{Rose}
 use Rattle.oi_drive.specs.declared.runner.Broken.{Broken}
 use Rattle.oi_drive.specs.declared.runner.Broken.TheVariants.{Memory, Read, Write}
-use Rattle.oi_drive.specs.Worlds.{World, delivered, input_text, input_world, outcomes}
+use Rattle.oi_drive.specs.Parts.{BrokeOff, IsFront}
+use Rattle.oi_drive.specs.Requests.{fed_requests, input_requests, line_request, requests_in}
+use Rattle.oi_drive.specs.Worlds.{World, delivered, feed, input_text, input_world, one_more, outcomes}
 use Rattle.oi_drive.specs.declared.runner.Stop.{Stop}
 use Rattle.oi_drive.specs.declared.runner.Stop.TheVariants.{Asked, InputEnd, BadLine}
 use Rattle.oi_history.specs.Histories.{snapshot}
@@ -77,6 +79,10 @@ pub record PutsOut (text : List ℕ) (status0 status : ℕ) (held0 held : Option
   pub clean : status ≡ 0 → sink ≡ sink0
   pub others : (n : ℕ) → status ≡ n → (n ≡ 31 → ⊥) → n ≡ status0
 
+-- the end was entered, and what was due handed out behind it or not
+abbrev pub IsEndedBy : End → Session → Session → Type 0
+IsEndedBy cause old now = (now ≡ terminated cause old) ⊎ (now ≡ closed_by cause old)
+
 -- what is left of a run whose input was read
 pub record Closes (w0 : World) (session : Session) (status : ℕ) (held0 held : Option (List ℕ)) (sink0 sink : ℕ) : Type 0 where
   pub session_is : (status ≡ 3 → ⊥) → session ≡ closed_by (cause_of w0.stop) w0.session
@@ -85,6 +91,22 @@ pub record Closes (w0 : World) (session : Session) (status : ℕ) (held0 held : 
   pub read : status ≡ 30 → ⊥
   pub write : status ≡ 31 → Rose sink0 sink
   pub clean : status ≡ 0 → sink ≡ sink0
+
+-- what of its end stands, whatever failed
+pub record ClosesPartly (w0 : World) (session : Session) (held0 held : Option (List ℕ)) : Type 0 where
+  pub entries : IsEndedBy (cause_of w0.stop) w0.session session
+  pub front : IsFront (closing_text (cause_of w0.stop) w0.session ++ stop_text w0.stop) held0 held
+
+-- the last text of a run that broke; to a sink that failed nothing more is written
+abbrev pub broken_text : Broken → World → List ℕ
+broken_text Write w = []
+broken_text b w = closing_text (Stopped (broken_status b)) w.session ++ fault_text (broken_status b) (one_more w.line)
+
+-- what is left of a run that broke
+pub record ClosesBroken (b : Broken) (w0 : World) (session : Session) (status : ℕ) (held0 held : Option (List ℕ)) (sink0 sink : ℕ) : Type 0 where
+  pub entries : IsEndedBy (Stopped (broken_status b)) w0.session session
+  pub front : IsFront (broken_text b w0) held0 held
+  pub text : b ≡ Read → (Rose sink0 sink → ⊥) → (status ≡ 3 → ⊥) → held ≡ behind held0 (broken_text b w0)
 
 -- the run, the text and the status that the input bytes give
 abbrev pub drive_world : List ℕ → World
@@ -122,3 +144,42 @@ pub record HasCause (status source0 source sink0 sink : ℕ) : Type 0 where
   pub read : status ≡ 30 → Rose source0 source
   pub write : status ≡ 31 → Rose sink0 sink
   pub clean : status ≡ 0 → (source ≡ source0) × (sink ≡ sink0)
+
+-- a run that read its whole input: its submissions are its lines'; where its end broke, a part of its last entries and a front of the text stand
+pub record IsReadWhole (left0 : Option (List ℕ)) (session : Session) (held0 held : Option (List ℕ)) (source0 source : ℕ) : Type 0 where
+  pub entries : (bytes : List ℕ) → left0 ≡ Some bytes → IsEndedBy (cause_of (drive_world bytes).stop) (drive_world bytes).session session
+  pub requests : (bytes : List ℕ) → left0 ≡ Some bytes → requests_in session.history ≡ input_requests first_world bytes
+  pub text : (bytes : List ℕ) → left0 ≡ Some bytes → IsFront (drive_text bytes) held0 held
+  pub source_same : source ≡ source0
+
+-- why a run broke off
+abbrev pub FailedBy : Broken → ℕ → ℕ → ℕ → ℕ → ℕ → Type 0
+FailedBy Read status source0 source sink0 sink = Rose source0 source
+FailedBy Write status source0 source sink0 sink = Rose sink0 sink × (source ≡ source0)
+FailedBy Memory status source0 source sink0 sink = (status ≡ 3) × (source ≡ source0)
+
+-- a run that broke off: the lines before decide their entries and their text, of the next one a part stands, then its end
+pub record IsReadPartly (broken : Broken) (left0 left : Option (List ℕ)) (session : Session) (status : ℕ) (held0 held : Option (List ℕ)) (source0 source sink0 sink : ℕ) : Type 0 where
+  pub before : World
+  pub printed : Option (List ℕ)
+  pub broke : BrokeOff broken left0 left first_world before held0 printed
+  pub entries : IsEndedBy (Stopped (broken_status broken)) before.session session
+  pub requests : (count : ℕ) × (requests_in session.history ≡ fed_requests first_world broke.fed ++ take count (line_request (feed first_world broke.fed)))
+  pub front : IsFront (broken_text broken before) printed held
+  pub text : broken ≡ Read → (Rose sink0 sink → ⊥) → (status ≡ 3 → ⊥) → held ≡ behind printed (broken_text broken before)
+  pub cause : FailedBy broken status source0 source sink0 sink
+
+-- what a run left, whatever failed
+abbrev pub IsLeftBy : Option Broken → Option (List ℕ) → Option (List ℕ) → Session → ℕ → Option (List ℕ) → Option (List ℕ) → ℕ → ℕ → ℕ → ℕ → Type 0
+IsLeftBy None left0 left session status held0 held source0 source sink0 sink = IsReadWhole left0 session held0 held source0 source
+IsLeftBy (Some b) left0 left session status held0 held source0 source sink0 sink = IsReadPartly b left0 left session status held0 held source0 source sink0 sink
+
+pub record IsLeft (left0 left : Option (List ℕ)) (session : Session) (status : ℕ) (held0 held : Option (List ℕ)) (source0 source sink0 sink : ℕ) : Type 0 where
+  pub broken : Option Broken
+  pub by : IsLeftBy broken left0 left session status held0 held source0 source sink0 sink
+
+-- of each session that was opened
+abbrev pub AreLeft : Option (List ℕ) → Option (List ℕ) → List RunView → ℕ → Option (List ℕ) → Option (List ℕ) → ℕ → ℕ → ℕ → ℕ → Type 0
+AreLeft left0 left [] status held0 held source0 source sink0 sink = Unit {0}
+AreLeft left0 left (r ∷ rs) status held0 held source0 source sink0 sink =
+    (session : Session) × (r ≡ run_of session) × IsLeft left0 left session status held0 held source0 source sink0 sink

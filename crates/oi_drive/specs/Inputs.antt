@@ -1,6 +1,7 @@
 -- The rest of an input, of which so many bytes may still come.
 use Rattle.std.specs.Prelude.{◌≡◌, ◌+◌, ◌<◌, ℕ, ◌++◌, List, Option, Some, None, Result, Ok, Err, length, take, nat_le, if◌then◌else◌}
 use Rattle.oi_base.specs.Counts.{Rose}
+use Rattle.oi_drive.specs.Parts.{BrokeOff}
 use Rattle.oi_drive.specs.Worlds.{World, feed, feed_text, input_end, input_end_text, input_over}
 use Rattle.oi_drive.specs.declared.runner.Broken.{Broken}
 use Rattle.oi_drive.specs.declared.runner.Broken.TheVariants.{Memory, Read, Write}
@@ -35,8 +36,8 @@ pub record GoesOn (room less : ℕ) (left0 left : Option (List ℕ)) (w0 w : Wor
 abbrev pub ReadsOnce : Result (Option ℕ) Broken → ℕ → Option (List ℕ) → Option (List ℕ) → World → World → Option (List ℕ) → Option (List ℕ) → ℕ → ℕ → ℕ → ℕ → Type 0
 ReadsOnce (Ok (Some less)) room left0 left w0 w held0 held source0 source sink0 sink = GoesOn room less left0 left w0 w held0 held × (source ≡ source0) × (sink ≡ sink0)
 ReadsOnce (Ok None) room left0 left w0 w held0 held source0 source sink0 sink = Finishes room left0 w0 w held0 held × (source ≡ source0) × (sink ≡ sink0)
-ReadsOnce (Err e) room left0 left w0 w held0 held source0 source sink0 sink = BreaksBy e source0 source sink0 sink
+ReadsOnce (Err e) room left0 left w0 w held0 held source0 source sink0 sink = BreaksBy e source0 source sink0 sink × BrokeOff e left0 left w0 w held0 held
 
-abbrev pub ReadsAll : Result (Unit {0}) Broken → ℕ → Option (List ℕ) → World → World → Option (List ℕ) → Option (List ℕ) → ℕ → ℕ → ℕ → ℕ → Type 0
-ReadsAll (Ok u) room left0 w0 w held0 held source0 source sink0 sink = Finishes room left0 w0 w held0 held × (source ≡ source0) × (sink ≡ sink0)
-ReadsAll (Err e) room left0 w0 w held0 held source0 source sink0 sink = BreaksBy e source0 source sink0 sink
+abbrev pub ReadsAll : Result (Unit {0}) Broken → ℕ → Option (List ℕ) → Option (List ℕ) → World → World → Option (List ℕ) → Option (List ℕ) → ℕ → ℕ → ℕ → ℕ → Type 0
+ReadsAll (Ok u) room left0 left w0 w held0 held source0 source sink0 sink = Finishes room left0 w0 w held0 held × (source ≡ source0) × (sink ≡ sink0)
+ReadsAll (Err e) room left0 left w0 w held0 held source0 source sink0 sink = BreaksBy e source0 source sink0 sink × BrokeOff e left0 left w0 w held0 held

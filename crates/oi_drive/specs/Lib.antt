@@ -2,7 +2,9 @@ pub mod Answered
 pub mod Acts
 pub mod Endings
 pub mod Inputs
+pub mod Parts
 pub mod Pdus
+pub mod Requests
 pub mod Runs
 pub mod Worlds
 pub mod Writes

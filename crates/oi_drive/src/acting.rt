@@ -1,6 +1,7 @@
-ghost use Rattle.std.specs.Prelude.{◌≡◌, ◌≤◌, ◌++◌, IfOk, OnOk, Some, true};
+ghost use Rattle.std.specs.Prelude.{◌≡◌, ◌≤◌, ◌⊎◌, ◌++◌, IfOk, OnErr, OnOk, Some, true};
 ghost use Rattle.oi_drive.specs.Acts.{Acts, SendsOne};
 ghost use Rattle.oi_history.specs.Phases.{is_logged_in};
+ghost use Rattle.oi_drive.specs.Parts.{IsBetween};
 ghost use Rattle.oi_drive.specs.Runs.{seen};
 ghost use Rattle.oi_drive.specs.Worlds.{acted, bad, kind_of, stop_by, acted_text, delivered, due_of_session, line_by, line_by_text, line_step, line_text, outcome_lines, outcomes, sends, sends_text};
 ghost use Rattle.oi_script.specs.Lines.{IsValidLine};
@@ -112,6 +113,7 @@ fn send(
     requires { is_logged_in (now_of solo.old).phase generation ≡ true }
     ensures session { OnOk result (solo.new ≡ sends count generation solo.old) }
     ensures text { OnOk result (out.new.items ≡ out.old.items ++ sends_text count generation solo.old) }
+    ensures partly { OnErr result (IsBetween solo.old (sends count generation solo.old) solo.new) }
 {
     for _i in 0..count {
         if !send_once(solo, alloc, generation, out)? {
@@ -188,6 +190,7 @@ fn deliver(solo: &mut Solo, alloc: Global) -> Result<Vec<Delivered>, NoMemory>
     ensures phase { (now_of solo.new).phase ≡ (now_of solo.old).phase }
     ensures session { OnOk result (solo.new ≡ delivered solo.old) }
     ensures due { IfOk result (λ v. v.items ≡ due_of_session solo.old) }
+    ensures same { OnErr result (solo.new ≡ solo.old) }
 {
     let mut due = Vec::new(alloc);
     match solo.deliver(&mut due) {
@@ -201,6 +204,7 @@ pub fn hand_out(solo: &mut Solo, alloc: Global, out: &mut Vec<u8>) -> Result<(),
     ensures phase { (now_of solo.new).phase ≡ (now_of solo.old).phase }
     ensures session { OnOk result (solo.new ≡ delivered solo.old) }
     ensures text { OnOk result (out.new.items ≡ out.old.items ++ outcomes solo.old) }
+    ensures partly { OnErr result ((solo.new ≡ solo.old) ⊎ (solo.new ≡ delivered solo.old)) }
 {
     let sid = solo.sid();
     let due = deliver(solo, alloc)?;
@@ -241,22 +245,27 @@ fn by_line(run: &mut Runner, line: DriveLine, out: &mut Vec<u8>) -> Result<(), N
     requires { IsValidLine line }
     ensures world { OnOk result (seen run.new ≡ line_by (seen run.old) (Some line)) }
     ensures text { OnOk result (out.new.items ≡ out.old.items ++ line_by_text (seen run.old) (Some line)) }
+    ensures partly { OnErr result (IsBetween run.old.solo (line_by (seen run.old) (Some line)).session run.new.solo) }
 {
     let kind = kind_of(&line);
     if !act(&mut run.solo, run.alloc, line, out)? {
         bad(run);
         return Ok(());
     }
+    let line = run.line.saturating_add(1);
+    let stop = stop_by(kind, line, run.solo.broken().is_some());
+    hand_out(&mut run.solo, run.alloc, out)?;
     run.part.clear();
-    run.line = run.line.saturating_add(1);
-    run.stop = stop_by(kind, run.line, run.solo.broken().is_some());
-    hand_out(&mut run.solo, run.alloc, out)
+    run.line = line;
+    run.stop = stop;
+    Ok(())
 }
 
 /// The line that has ended: its entries, and its text behind `out`.
 pub fn line_step(run: &mut Runner, out: &mut Vec<u8>) -> Result<(), NoMemory>
     ensures world { OnOk result (seen run.new ≡ line_step (seen run.old)) }
     ensures text { OnOk result (out.new.items ≡ out.old.items ++ line_text (seen run.old)) }
+    ensures partly { OnErr result (IsBetween run.old.solo (line_step (seen run.old)).session run.new.solo) }
 {
     match read_drive(run.alloc, &run.part) {
         Ok(line) => by_line(run, line, out),

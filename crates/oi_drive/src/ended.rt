@@ -3,10 +3,13 @@ ghost use Rattle.std.specs.Prelude.{◌≡◌, ◌<◌, length, ◌++◌, ◌∷
 ghost use Rattle.oi_base.specs.Counts.{Rose};
 ghost use Rattle.oi_drive.specs.Answered.{AreAnswered, AreOnce};
 ghost use Rattle.oi_history.specs.Tasks.{due_in};
-ghost use Rattle.oi_drive.specs.Endings.{AreEnded, Closes, HasCause, IsDrive, IsEndedRun, PutsOut, broken_status, cause_of, closed_by, closing_text, drive_config, first_world, status_of, stop_text, terminated};
+ghost use Rattle.oi_drive.specs.Endings.{AreEnded, AreLeft, Closes, ClosesBroken, ClosesPartly, HasCause, IsDrive, IsEndedBy, IsEndedRun, IsLeft, PutsOut, broken_status, cause_of, closed_by, closing_text, drive_config, first_world, status_of, stop_text, terminated};
 ghost use Rattle.oi_outside.specs.Streams.{IsCounted, behind};
+ghost use Rattle.oi_drive.specs.Parts.{IsFront};
 ghost use Rattle.oi_drive.specs.Runs.{seen};
-ghost use Rattle.oi_drive.specs.declared.runner.Broken.TheVariants.{Write};
+ghost use Rattle.oi_drive.specs.Worlds.{one_more};
+ghost use Rattle.oi_script.specs.Printed.{fault_text};
+ghost use Rattle.oi_drive.specs.declared.runner.Broken.TheVariants.{Memory, Write};
 ghost use Rattle.oi_history.specs.Phases.{is_ended};
 ghost use Rattle.oi_session.specs.Sessions.{now_of, run_of};
 
@@ -95,6 +98,7 @@ fn close_session(
     ensures session { OnOk result (solo.new ≡ closed_by cause solo.old) }
     ensures text { OnOk result (out.new.items ≡ out.old.items ++ closing_text cause solo.old) }
     ensures settled { OnOk result (due_in (now_of solo.new).tasks ≡ []) }
+    ensures entries { IsEndedBy cause solo.old solo.new }
 {
     terminate(solo, cause);
     hand_out(solo, alloc, out)
@@ -118,6 +122,7 @@ fn put_stop(alloc: Global, stop: Option<Stop>, out: &mut Vec<u8>) -> Result<(), 
 
 fn write_and_flush<K: Sink>(sink: &mut K, text: &[u8]) -> Result<(), Failed>
     ensures held { OnOk result (K.held sink.new ≡ behind (K.held sink.old) text.now) }
+    ensures front { IsFront text.now (K.held sink.old) (K.held sink.new) }
     ensures count { IsCounted result (K.faults sink.old) (K.faults sink.new) }
 {
     write_all(sink, text)?;
@@ -127,7 +132,9 @@ fn write_and_flush<K: Sink>(sink: &mut K, text: &[u8]) -> Result<(), Failed>
 // Prints the last text. Answers the status, where a failure of the sink shows if nothing else does.
 fn put_out<K: Sink>(sink: &mut K, text: &[u8], status: u8) -> u8
     requires { status ≡ 31 → ⊥ }
-    ensures { PutsOut text.now status result (K.held sink.old) (K.held sink.new) (K.faults sink.old) (K.faults sink.new) }
+    ensures puts { PutsOut text.now status result (K.held sink.old) (K.held sink.new) (K.faults sink.old) (K.faults sink.new) }
+    ensures front { IsFront text.now (K.held sink.old) (K.held sink.new) }
+    ensures kept { (status ≡ 0 → ⊥) → result ≡ status }
 {
     match write_and_flush(sink, text) {
         Ok(()) => status,
@@ -140,6 +147,7 @@ fn close_read<K: Sink>(run: &mut Runner, sink: &mut K) -> u8
     ensures ended { is_ended (now_of run.new.solo).phase ≡ true }
     ensures settled { (result ≡ 3 → ⊥) → due_in (now_of run.new.solo).tasks ≡ [] }
     ensures closes { Closes (seen run.old) run.new.solo result (K.held sink.old) (K.held sink.new) (K.faults sink.old) (K.faults sink.new) }
+    ensures partly { ClosesPartly (seen run.old) run.new.solo (K.held sink.old) (K.held sink.new) }
 {
     let stop = run.stop;
     let mut text = Vec::new(run.alloc);
@@ -170,6 +178,8 @@ fn close_broken<K: Sink>(run: &mut Runner, broken: Broken, sink: &mut K) -> u8
     ensures settled { (result ≡ 3 → ⊥) → due_in (now_of run.new.solo).tasks ≡ [] }
     ensures status { (result ≡ 3 → ⊥) → result ≡ broken_status broken }
     ensures quiet { broken ≡ Write → K.faults sink.new ≡ K.faults sink.old }
+    ensures closes { ClosesBroken broken (seen run.old) run.new.solo result (K.held sink.old) (K.held sink.new) (K.faults sink.old) (K.faults sink.new) }
+    ensures memory { broken ≡ Memory → result ≡ 3 }
 {
     let status = broken_status(broken);
     let mut text = Vec::new(run.alloc);
@@ -177,19 +187,31 @@ fn close_broken<K: Sink>(run: &mut Runner, broken: Broken, sink: &mut K) -> u8
         Ok(()) => {}
         Err(_) => return 3,
     }
-    if broken != Broken::Write {
-        put_broken(sink, run.alloc, broken, run.line, &mut text);
+    if broken == Broken::Write {
+        return status;
     }
-    status
+    put_broken(sink, run.alloc, status, run.line, &mut text)
 }
 
-fn put_broken<K: Sink>(sink: &mut K, alloc: Global, broken: Broken, line: u64, text: &mut Vec<u8>) {
-    if broken == Broken::Read {
-        if let Ok(fault) = fault_line(alloc, 30, line.saturating_add(1)) {
-            let _ = text.extend_from_slice(fault.as_slice());
-        }
+fn put_fault(alloc: Global, status: u8, line: u64, out: &mut Vec<u8>) -> Result<(), NoMemory>
+    ensures { OnOk result (out.new.items ≡ out.old.items ++ fault_text status (one_more line)) }
+{
+    out.extend_from_slice(fault_line(alloc, status, line.saturating_add(1))?.as_slice())?;
+    Ok(())
+}
+
+// Prints the last text of a run that broke, with its fault. Answers the status.
+fn put_broken<K: Sink>(sink: &mut K, alloc: Global, status: u8, line: u64, text: &mut Vec<u8>) -> u8
+    requires { (status ≡ 0 → ⊥) × (status ≡ 31 → ⊥) }
+    ensures status { (result ≡ 3 → ⊥) → result ≡ status }
+    ensures memory { status ≡ 3 → result ≡ 3 }
+    ensures front { IsFront (text.old.items ++ fault_text status (one_more line)) (K.held sink.old) (K.held sink.new) }
+    ensures text { (Rose (K.faults sink.old) (K.faults sink.new) → ⊥) → (result ≡ 3 → ⊥) → K.held sink.new ≡ behind (K.held sink.old) (text.old.items ++ fault_text status (one_more line)) }
+{
+    match put_fault(alloc, status, line, text) {
+        Ok(()) => put_out(sink, text, status),
+        Err(_) => 3,
     }
-    let _ = write_and_flush(sink, text);
 }
 
 // Reads the input and ends the session. Answers the status.
@@ -200,6 +222,8 @@ fn replay<S: Source, K: Sink>(run: &mut Runner, source: &mut S, sink: &mut K) ->
     ensures exact { (bytes : List ℕ) → S.left source.old ≡ Some bytes → (Rose (S.faults source.old) (S.faults source.new) → ⊥) → (Rose (K.faults sink.old) (K.faults sink.new) → ⊥)
         → (result ≡ 3 → ⊥) → IsDrive bytes result (run_of run.new.solo ∷ []) (K.held sink.old) (K.held sink.new) }
     ensures cause { HasCause result (S.faults source.old) (S.faults source.new) (K.faults sink.old) (K.faults sink.new) }
+    ensures left { IsLeft (S.left source.old) (S.left source.new) run.new.solo result (K.held sink.old) (K.held sink.new)
+        (S.faults source.old) (S.faults source.new) (K.faults sink.old) (K.faults sink.new) }
 {
     match read_input(run, source, sink) {
         Ok(()) => close_read(run, sink),
@@ -247,6 +271,8 @@ pub fn drive_main<S: Source, K: Sink>(alloc: Global, source: &mut S, sink: &mut 
     ensures exact { (bytes : List ℕ) → S.left source.old ≡ Some bytes → (Rose (S.faults source.old) (S.faults source.new) → ⊥) → (Rose (K.faults sink.old) (K.faults sink.new) → ⊥)
         → (result.status ≡ 3 → ⊥) → IsDrive bytes result.status result.runs (K.held sink.old) (K.held sink.new) }
     ensures cause { HasCause result.status (S.faults source.old) (S.faults source.new) (K.faults sink.old) (K.faults sink.new) }
+    ensures left { AreLeft (S.left source.old) (S.left source.new) result.runs result.status (K.held sink.old) (K.held sink.new)
+        (S.faults source.old) (S.faults source.new) (K.faults sink.old) (K.faults sink.new) }
 {
     let Ok(room) = room_for_one(alloc) else {
         return without_run(alloc);

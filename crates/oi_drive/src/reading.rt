@@ -79,7 +79,7 @@ pub fn read_input<S: Source, K: Sink>(
     source: &mut S,
     sink: &mut K,
 ) -> Result<(), Broken>
-    ensures { ReadsAll result input_limit (S.left source.old) (seen run.old) (seen run.new) (K.held sink.old) (K.held sink.new)
+    ensures { ReadsAll result input_limit (S.left source.old) (S.left source.new) (seen run.old) (seen run.new) (K.held sink.old) (K.held sink.new)
         (S.faults source.old) (S.faults source.new) (K.faults sink.old) (K.faults sink.new) }
 {
     let Ok(mut buf) = buffer(run.alloc) else {

@@ -1,7 +1,8 @@
-ghost use Rattle.std.specs.Prelude.{◌≡◌, ◌++◌, ◌∷◌, [], OnOk};
+ghost use Rattle.std.specs.Prelude.{◌≡◌, ◌++◌, ◌∷◌, [], OnErr, OnOk};
+ghost use Rattle.oi_drive.specs.Parts.{BrokeIn, IsPartly};
 ghost use Rattle.oi_drive.specs.Runs.{seen};
 ghost use Rattle.oi_drive.specs.Worlds.{byte_text, feed, feed_byte, feed_text, input_end, input_end_text, line_step, line_text, stopped_at_end};
-ghost use Rattle.oi_drive.specs.Writes.{Prints};
+ghost use Rattle.oi_drive.specs.Writes.{Counts, Prints};
 
 use crate::acting::{bad, line_step};
 use crate::runner::{Broken, Runner, Stop};
@@ -23,6 +24,7 @@ fn grow(part: &mut Vec<u8>, b: u8) -> Result<(), NoMemory>
 fn end_line<K: Sink>(run: &mut Runner, sink: &mut K) -> Result<(), Broken>
     ensures world { OnOk result (seen run.new ≡ line_step (seen run.old)) }
     ensures prints { Prints result (line_text (seen run.old)) (K.held sink.old) (K.held sink.new) (K.faults sink.old) (K.faults sink.new) }
+    ensures partly { OnErr result (IsPartly (seen run.old) (seen run.new) (K.held sink.old) (K.held sink.new)) }
 {
     let mut out = Vec::new(run.alloc);
     line_step(run, &mut out)?;
@@ -32,7 +34,8 @@ fn end_line<K: Sink>(run: &mut Runner, sink: &mut K) -> Result<(), Broken>
 /// One byte of the input.
 pub fn take_byte<K: Sink>(run: &mut Runner, sink: &mut K, b: u8) -> Result<(), Broken>
     ensures world { OnOk result (seen run.new ≡ feed_byte (seen run.old) b) }
-    ensures prints { Prints result (byte_text (seen run.old) b) (K.held sink.old) (K.held sink.new) (K.faults sink.old) (K.faults sink.new) }
+    ensures prints { Counts result (byte_text (seen run.old) b) (K.held sink.old) (K.held sink.new) (K.faults sink.old) (K.faults sink.new) }
+    ensures partly { OnErr result (IsPartly (seen run.old) (seen run.new) (K.held sink.old) (K.held sink.new)) }
 {
     if run.stop.is_some() {
         return Ok(());
@@ -51,7 +54,8 @@ pub fn take_byte<K: Sink>(run: &mut Runner, sink: &mut K, b: u8) -> Result<(), B
 /// A piece of the input.
 pub fn take_piece<K: Sink>(run: &mut Runner, sink: &mut K, piece: &[u8]) -> Result<(), Broken>
     ensures world { OnOk result (seen run.new ≡ feed (seen run.old) piece.now) }
-    ensures prints { Prints result (feed_text (seen run.old) piece.now) (K.held sink.old) (K.held sink.new) (K.faults sink.old) (K.faults sink.new) }
+    ensures prints { Counts result (feed_text (seen run.old) piece.now) (K.held sink.old) (K.held sink.new) (K.faults sink.old) (K.faults sink.new) }
+    ensures partly { OnErr result (BrokeIn piece.now (seen run.old) (seen run.new) (K.held sink.old) (K.held sink.new)) }
 {
     for b in piece {
         match take_byte(run, sink, *b) {
@@ -74,7 +78,8 @@ fn stop_at_end(run: &mut Runner)
 #[tactic(auto, using(crate::proofs::Outputs::behind_none))]
 pub fn end_of_input<K: Sink>(run: &mut Runner, sink: &mut K) -> Result<(), Broken>
     ensures world { OnOk result (seen run.new ≡ input_end (seen run.old)) }
-    ensures prints { Prints result (input_end_text (seen run.old)) (K.held sink.old) (K.held sink.new) (K.faults sink.old) (K.faults sink.new) }
+    ensures prints { Counts result (input_end_text (seen run.old)) (K.held sink.old) (K.held sink.new) (K.faults sink.old) (K.faults sink.new) }
+    ensures partly { OnErr result (IsPartly (seen run.old) (seen run.new) (K.held sink.old) (K.held sink.new)) }
 {
     if run.stop.is_some() {
         return Ok(());

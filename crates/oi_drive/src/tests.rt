@@ -79,3 +79,46 @@ fn failing_calls(rt: HostRuntime) -> Result<(), Fail> {
     replays(&rt, rt.alloc(), b"", &[0], &[], 30, b"fault 30 1\n")?;
     replays(&rt, rt.alloc(), CAPACITY_IN, &[], &[0], 31, b"")
 }
+
+const DIGITS: &[u8; 16] = b"0123456789abcdef";
+
+fn put_hex(out: &mut Vec<u8>, n: u32) -> Result<(), Fail> {
+    for b in n.to_be_bytes() {
+        out.push(DIGITS[usize::from(b / 16)])?;
+        out.push(DIGITS[usize::from(b % 16)])?;
+    }
+    Ok(())
+}
+
+// A READ CAPACITY, its command and its Data-In with status.
+fn put_exchange(out: &mut Vec<u8>, k: u32) -> Result<(), Fail> {
+    out.extend_from_slice(b"capacity 0\nsend 1\nrecv 1 25810000000000080000000000000000")?;
+    put_hex(out, k % 128)?;
+    out.extend_from_slice(b"ffffffff")?;
+    put_hex(out, k.saturating_add(5))?;
+    put_hex(out, k.saturating_add(2))?;
+    put_hex(out, k.saturating_add(33))?;
+    out.extend_from_slice(b"000000000000000000000000000003ff00000200\n")?;
+    Ok(())
+}
+
+#[test]
+fn ten_thousand_lines(rt: HostRuntime) -> Result<(), Fail> {
+    let mut input = Vec::new(rt.alloc());
+    input.extend_from_slice(b"login 1 32 5\n")?;
+    for k in 0..3333u32 {
+        put_exchange(&mut input, k)?;
+    }
+    let bytes = Blob::from_slice(rt.alloc(), &input)?;
+    let mut source = MemSource::new(bytes, Series::new(rt.alloc()));
+    let mut sink = MemSink::new(rt.alloc(), 1_000_000, Series::new(rt.alloc()))?;
+    let ended = drive_main(rt.alloc(), &mut source, &mut sink);
+    assert_eq!(rt; ended.status, 0);
+    assert!(rt;
+        sink.held()
+            .ends_with(b"done 1 3332 00 0 - 8:000003ff00000200\n")
+    );
+    // a line `login 1`, and for each exchange its command and its outcome
+    assert_eq!(rt; sink.held().iter().filter(|b| **b == b'\n').count(), 6667);
+    Ok(())
+}

@@ -1,6 +1,7 @@
 -- The words of the program.
 use Rattle.std.specs.Prelude.{◌≡◌, ℕ, Bool, true, false, List, [], ◌∷◌, Option, String, codes, string_bytes}
 use Rattle.oi_base.specs.Counts.{Rose}
+use Rattle.oi_drive.specs.Parts.{IsFront}
 use Rattle.oi_outside.specs.Streams.{behind}
 use Rattle.oi_script.specs.Numbers.{is_text}
 use Rattle.oi_session.specs.Sessions.{RunView}
@@ -16,3 +17,4 @@ pub record IsRefused (status : ℕ) (runs : List RunView) (held0 held : Option (
   pub status_is : status ≡ 7
   pub runs_are : runs ≡ []
   pub text : (Rose sink0 sink → ⊥) → held ≡ behind held0 (codes "fault 7 0\n")
+  pub front : IsFront (codes "fault 7 0\n") held0 held

@@ -1,7 +1,8 @@
 ghost use Rattle.std.specs.Prelude.{◌≡◌, length, ℕ, List, Some, OnOk, codes, true, false};
 ghost use Rattle.oi_base.specs.Counts.{Rose};
 ghost use Rattle.oi_drive.specs.Answered.{AreAnswered, AreOnce};
-ghost use Rattle.oi_drive.specs.Endings.{AreEnded, HasCause, IsDrive};
+ghost use Rattle.oi_drive.specs.Endings.{AreEnded, AreLeft, HasCause, IsDrive};
+ghost use Rattle.oi_drive.specs.Parts.{IsFront};
 ghost use Rattle.oi_outside.specs.Streams.{IsCounted, behind};
 ghost use Rattle.oi_top.specs.Words.{IsRefused, is_drive};
 
@@ -21,6 +22,7 @@ fn is_drive(words: &[String]) -> bool
 
 fn put_refusal<K: Sink>(sink: &mut K) -> Result<(), Failed>
     ensures held { OnOk result (K.held sink.new ≡ behind (K.held sink.old) (codes "fault 7 0\n")) }
+    ensures front { IsFront (codes "fault 7 0\n") (K.held sink.old) (K.held sink.new) }
     ensures count { IsCounted result (K.faults sink.old) (K.faults sink.new) }
 {
     write_all(sink, b"fault 7 0\n")?;
@@ -52,6 +54,8 @@ pub fn iscsi_main<S: Source, K: Sink>(
     ensures exact { is_drive words.now ≡ true → (bytes : List ℕ) → S.left source.old ≡ Some bytes → (Rose (S.faults source.old) (S.faults source.new) → ⊥)
         → (Rose (K.faults sink.old) (K.faults sink.new) → ⊥) → (result.status ≡ 3 → ⊥) → IsDrive bytes result.status result.runs (K.held sink.old) (K.held sink.new) }
     ensures cause { HasCause result.status (S.faults source.old) (S.faults source.new) (K.faults sink.old) (K.faults sink.new) }
+    ensures left { is_drive words.now ≡ true → AreLeft (S.left source.old) (S.left source.new) result.runs result.status (K.held sink.old) (K.held sink.new)
+        (S.faults source.old) (S.faults source.new) (K.faults sink.old) (K.faults sink.new) }
     ensures refused { is_drive words.now ≡ false → IsRefused result.status result.runs (K.held sink.old) (K.held sink.new) (K.faults sink.old) (K.faults sink.new) }
     ensures unread { is_drive words.now ≡ false → source.new ≡ source.old }
 {

@@ -1,5 +1,5 @@
 use Rattle.std.proofs.Common.{◌≡◌, Bool, true, false, Ok, subst, arith, rules}
-use Rattle.oi_drive.proofs.Repeats.{not_false, not_true, sending_first, sending_idle, sending_more, sending_over}
+use Rattle.oi_drive.proofs.Repeats.{on_error, sending_broke, not_false, not_true, sending_first, sending_idle, sending_more, sending_over}
 use Rattle.oi_drive.specs.Acts.{SendsOne}
 use Rattle.oi_drive.proofs.acting.send.Goals as goal
 
@@ -35,3 +35,8 @@ returns-clause-session c = (sending_over c.args.generation c.args.count c.loop-i
 
 pub returns-clause-text : goal.returns-clause-text
 returns-clause-text c = (sending_over c.args.generation c.args.count c.loop-i._i c.args.solo.now c.loop-i.solo c.args.out.now.items c.loop-i.out.items (omega arith) c.loop-i.invariant).text
+
+pub returns-in_err-send_once-clause-partly : goal.returns-in_err-send_once-clause-partly
+returns-in_err-send_once-clause-partly c =
+    on_error c.from_residual.result _ (sending_broke c.args.generation c.args.count c.loop-i._i c.args.solo.now c.loop-i.solo c.send_once.new.solo c.args.out.now.items c.loop-i.out.items
+    c.loop-i-test.true c.loop-i.invariant c.in_err-send_once.ensures)

@@ -1,6 +1,8 @@
-use Rattle.std.proofs.Common.{◌∙◌, ℕ, Option, Ok, subst}
+use Rattle.std.proofs.Common.{◌∙◌, ℕ, Option, Ok, refl, subst}
 use Rattle.oi_base.specs.Limits.{input_limit}
-use Rattle.oi_drive.proofs.Readings.{going_end, going_more}
+use Rattle.oi_drive.proofs.Breaks.{broke_behind, unmoved}
+use Rattle.oi_drive.specs.declared.runner.Broken.TheVariants.{Memory}
+use Rattle.oi_drive.proofs.Readings.{breaks_by_from, going_end, going_more}
 use Rattle.oi_drive.specs.Inputs.{ReadsOnce}
 use Rattle.oi_drive.specs.Runs.{seen}
 use Rattle.oi_drive.proofs.reading.read_input.Goals as goal
@@ -28,4 +30,18 @@ returns-in-Ok-None g c =
           (g.S.Source.faults c.args.source.now) (g.S.Source.faults c.loop-less.source) (g.K.Sink.faults c.args.sink.now) (g.K.Sink.faults c.loop-less.sink) r once.0,
       once.1 ∙ r.source_same,
       once.2 ∙ r.sink_same,
+    )
+
+pub returns-in_default : goal.returns-in_default
+returns-in_default g c =
+    ((refl, refl), unmoved Memory (g.S.Source.left c.args.source.now) (g.S.Source.left c.args.source.now) (seen c.args.run.now) (g.K.Sink.held c.args.sink.now) refl)
+
+pub returns-in-Err : goal.returns-in-Err
+returns-in-Err g c =
+    let r = c.loop-less.invariant.1 in (
+      breaks_by_from c.in-Err.broken (g.S.Source.faults c.args.source.now) (g.S.Source.faults c.loop-less.source) (g.S.Source.faults c.read_once.new.source)
+          (g.K.Sink.faults c.args.sink.now) (g.K.Sink.faults c.loop-less.sink) (g.K.Sink.faults c.read_once.new.sink) r.source_same r.sink_same c.in-Err.ensures.0,
+      broke_behind c.in-Err.broken (g.S.Source.left c.args.source.now) (g.S.Source.left c.loop-less.source) (g.S.Source.left c.read_once.new.source)
+          (seen c.args.run.now) (seen c.loop-less.run) (seen c.read_once.new.run) (g.K.Sink.held c.args.sink.now) (g.K.Sink.held c.loop-less.sink) (g.K.Sink.held c.read_once.new.sink)
+          r.so_far c.in-Err.ensures.1,
     )
