@@ -1,0 +1,2 @@
+/// Laws.
+pub fn targets_read_back() {}
