@@ -8,7 +8,7 @@ use Rattle.oi_names.specs.declared.portal.Portal.{Portal}
 use Rattle.oi_text.specs.Pairs.{IsText}
 use Rattle.oi_text.specs.declared.pairs.Pair.{Pair}
 use Rattle.oi_sendtargets.specs.declared.found.Found.{Found}
-use Rattle.oi_sendtargets.specs.Payloads.{target_address, pair_of, Target, IsListing}
+use Rattle.oi_sendtargets.specs.Payloads.{Target, IsListing}
 
 -- the list is what the items give, one behind the other
 abbrev pub AreGiven : {A : Type 0} → (A → List Found → Type 0) → List A → List Found → Type 0
@@ -49,21 +49,20 @@ IsFound payload asked found = (pairs : List Pair) × IsText payload pairs × IsF
 abbrev pub address_text : Found → List ℕ
 address_text f = portal_text f.portal.address f.portal.port ++ 44 ∷ decimal f.tag
 
-abbrev pub address_pairs : List Found → List Pair
-address_pairs found = map (λ f. pair_of target_address (address_text f)) found
+-- a target that is reached at these portals
+abbrev pub target_at : List ℕ → List Found → Target
+target_at name found = record { name = name; addresses = map address_text found }
 
+-- the portal is one of this target
 abbrev pub has_name : List ℕ → Found → Bool
 has_name name f = pointwise nat_eq f.target name
 
-abbrev pub alone : Found → Target
-alone f = record { name = f.target; addresses = address_text f ∷ [] }
-
--- the address of f in front, at the first target where it has the same name
+-- a portal in front of others: an address more of the first target, where that has the same name
 abbrev pub joined : Found → List Target → List Target
-joined f [] = alone f ∷ []
+joined f [] = target_at f.target (f ∷ []) ∷ []
 joined f (t ∷ ts) =
     if pointwise nat_eq t.name f.target then record { name = t.name; addresses = address_text f ∷ t.addresses } ∷ ts
-    else alone f ∷ t ∷ ts
+    else target_at f.target (f ∷ []) ∷ t ∷ ts
 
 -- neighbours with one name are one target
 abbrev pub targets_of : List Found → List Target

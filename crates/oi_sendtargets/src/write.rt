@@ -1,8 +1,8 @@
-ghost use Rattle.std.specs.Prelude.{◌≡◌, ◌++◌, ◌∷◌, ℕ, List, OnOk, OnErr, map, length, nat_eq};
+ghost use Rattle.std.specs.Prelude.{◌≡◌, ◌++◌, ℕ, List, OnOk, OnErr};
 ghost use Rattle.std.specs.List.{prefix_len};
-ghost use Rattle.oi_text.specs.Pairs.{text_of, pair_text, spelled};
-ghost use Rattle.oi_sendtargets.specs.Payloads.{target_name, target_address, pair_of, payload_of};
-ghost use Rattle.oi_sendtargets.specs.Listings.{address_text, targets_of, address_pairs, has_name};
+ghost use Rattle.oi_text.specs.Pairs.{text_of, spelled};
+ghost use Rattle.oi_sendtargets.specs.Payloads.{target_name, target_address, target_pairs, payload_of};
+ghost use Rattle.oi_sendtargets.specs.Listings.{address_text, target_at, targets_of, has_name};
 
 use crate::found::Found;
 use crate::parts::{after, before};
@@ -29,8 +29,7 @@ fn append_targets(found: &[Found], out: &mut Vec<u8>) -> Result<(), NoMemory>
     let mut rest = found;
     while let [first, ..] = rest {
         let count = neighbour_count(&first.target, rest);
-        append_name(&first.target, out)?;
-        append_addresses(before(rest, count), out)?;
+        append_target(&first.target, before(rest, count), out)?;
         rest = after(rest, count);
     }
     Ok(())
@@ -49,6 +48,22 @@ fn has_name(target: &IscsiName, place: &Found) -> bool
     place.target == *target
 }
 
+// Appends a name, and behind it the addresses of these portals.
+fn append_target(
+    target: &IscsiName,
+    places: &[Found],
+    out: &mut Vec<u8>,
+) -> Result<(), NoMemory>
+    ensures ok { OnOk result (out.new.items ≡ out.old.items ++ text_of (target_pairs (target_at target.now places.now))) }
+    ensures err { OnErr result ((more : List ℕ) × (out.new.items ≡ out.old.items ++ more)) }
+{
+    append_name(target, out)?;
+    for place in places {
+        append_address(place, out)?;
+    }
+    Ok(())
+}
+
 fn append_name(target: &IscsiName, out: &mut Vec<u8>) -> Result<(), NoMemory>
     ensures ok { OnOk result (out.new.items ≡ out.old.items ++ spelled target_name target.now) }
     ensures err { OnErr result ((more : List ℕ) × (out.new.items ≡ out.old.items ++ more)) }
@@ -56,16 +71,6 @@ fn append_name(target: &IscsiName, out: &mut Vec<u8>) -> Result<(), NoMemory>
     out.extend_from_slice(b"TargetName=")?;
     out.extend_from_slice(target.as_slice())?;
     out.push(0)?;
-    Ok(())
-}
-
-fn append_addresses(found: &[Found], out: &mut Vec<u8>) -> Result<(), NoMemory>
-    ensures ok { OnOk result (out.new.items ≡ out.old.items ++ text_of (address_pairs found.now)) }
-    ensures err { OnErr result ((more : List ℕ) × (out.new.items ≡ out.old.items ++ more)) }
-{
-    for place in found {
-        append_address(place, out)?;
-    }
     Ok(())
 }
 
