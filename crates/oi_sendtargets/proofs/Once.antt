@@ -1,5 +1,5 @@
 -- A payload is one list of targets at most, and tells one list of portals.
-use Rattle.std.proofs.Common.{◌≡◌, ◌≢◌, ◌<◌, ◌∙◌, ◌⊎◌, ℕ, Option, List, [], ◌∷◌, ◌++◌, length, map, unwrap_or, refl, sym, ap, subst, arith, inl, inr, append_assoc}
+use Rattle.std.proofs.Common.{◌≡◌, ◌∙◌, ℕ, Option, List, [], ◌∷◌, ◌++◌, length, map, unwrap_or, refl, sym, ap, subst, arith, inl, inr, append_assoc}
 use Rattle.std.proofs.lemmas.List.{append-nil}
 use Rattle.oi_names.specs.Portals.{IsPortal}
 use Rattle.oi_names.specs.declared.portal.Portal.{Portal}
@@ -8,8 +8,9 @@ use Rattle.oi_text.specs.Pairs.{text_of, IsText, IsMalformedAt}
 use Rattle.oi_text.specs.declared.pairs.Pair.{Pair}
 use Rattle.oi_text.proofs.Pieces.{same_lists, no_pair-none}
 use Rattle.oi_sendtargets.specs.declared.found.Found.{Found}
-use Rattle.oi_sendtargets.specs.Payloads.{target_name, target_address, Target, pair_of, target_pairs, listing_pairs, payload_of, AreNamed, IsListing, CanFollow, IsStrayAt, IsBadAt, NoAddress}
-use Rattle.oi_sendtargets.specs.Listings.{AreGiven, IsAddressOf, AddressGives, NameGives, TargetGives, IsFoundIn, IsFound}
+use Rattle.oi_sendtargets.specs.Payloads.{target_name, target_address, Target, pair_of, listing_pairs, payload_of, AreNamed, IsListing, CanFollow, IsStrayAt, IsBadAt}
+use Rattle.oi_sendtargets.specs.Listings.{AreGiven, IsAddressOf, AddressGives, NameGives, TargetGives, IsFound}
+use Rattle.oi_sendtargets.specs.Steps.{NoAddress}
 
 -- one list of targets
 

@@ -1,7 +1,6 @@
 -- What was written reads as it was given.
-use Rattle.std.proofs.Common.{◌≡◌, ◌<◌, ◌≤◌, ◌+◌, ◌*◌, ◌^◌, ◌∙◌, ◌==◌, ℕ, suc, zero, Bool, true, false, cond, Option, Some, None, List, [], ◌∷◌, ◌++◌, length, map, not, nat_eq, refl, sym, ap, subst, arith, inl, inr, length-append}
+use Rattle.std.proofs.Common.{◌≡◌, ◌<◌, ◌≤◌, ◌+◌, ◌*◌, ◌^◌, ◌∙◌, ◌==◌, ℕ, suc, zero, Bool, true, false, cond, Some, None, List, [], ◌∷◌, ◌++◌, length, not, nat_eq, refl, sym, ap, subst, arith, inl, inr, length-append}
 use Rattle.std.specs.Fmt.{decimal}
-use Rattle.std.specs.List.{list_all}
 use Rattle.std.specs.Cmp.Lexicographic.{pointwise}
 use Rattle.std.proofs.lemmas.Bool.Decides.{nat_tests}
 use Rattle.std.proofs.lemmas.Fmt.{length-decimal-le}
@@ -11,12 +10,12 @@ use Rattle.oi_names.specs.Grammars.{IsLed}
 use Rattle.oi_names.specs.Names.{IsName, IsNameRest, is_name_byte, iqn, eui, naa}
 use Rattle.oi_names.specs.Portals.{IsAddress, IsBracketed, IsDotted, IsEndpoint, IsPortal, IsPortalOf, is_inner, portal_text}
 use Rattle.oi_names.specs.declared.portal.Portal.{Portal}
-use Rattle.oi_names.proofs.Alphabets.{Lacks, NoDigit, lacks_all, lacks_append, lacks_dotted, lacks_number}
+use Rattle.oi_names.proofs.Alphabets.{Lacks, NoDigit, lacks_all, lacks_append, lacks_number}
 use Rattle.oi_names.proofs.Readings as readings
 use Rattle.oi_names.proofs.Runs.{and_both}
 use Rattle.oi_text.specs.Pairs.{IsPair, ArePairs}
 use Rattle.oi_sendtargets.specs.declared.found.Found.{Found}
-use Rattle.oi_sendtargets.specs.Payloads.{target_name, target_address, Target, pair_of, listing_pairs, payload_of, AreNamed}
+use Rattle.oi_sendtargets.specs.Payloads.{target_name, target_address, Target, listing_pairs, payload_of, AreNamed}
 use Rattle.oi_sendtargets.specs.Listings.{address_text, target_at, joined, targets_of, AreGiven, IsAddressOf, AddressGives, NameGives, TargetGives, IsFound, IsReadable, AreReadable}
 
 -- names and addresses as values of pairs

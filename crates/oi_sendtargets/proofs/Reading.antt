@@ -1,13 +1,11 @@
 -- How far a list of pairs is read.
-use Rattle.std.proofs.Common.{◌≡◌, ◌≢◌, ◌<◌, ◌≤◌, ◌+◌, ◌-◌, ◌∙◌, ◌⊎◌, ℕ, suc, zero, Bool, true, false, cond, List, [], ◌∷◌, ◌++◌, length, take, drop, get_or, map, nat_eq, refl, sym, ap, subst, arith, inl, inr, Result, Ok, Err, OnOk, append_assoc, length-append}
-use Rattle.std.specs.Cmp.Lexicographic.{pointwise}
+use Rattle.std.proofs.Common.{◌≡◌, ◌≢◌, ◌<◌, ◌≤◌, ◌+◌, ◌-◌, ◌∙◌, ◌⊎◌, ℕ, suc, zero, Bool, true, false, cond, List, [], ◌∷◌, ◌++◌, length, take, drop, get_or, map, refl, sym, ap, subst, arith, inl, inr, append_assoc, length-append}
 use Rattle.std.specs.List.{list_all, prefix_len}
 use Rattle.std.proofs.lemmas.Bool.{and_parts, and_from}
 use Rattle.std.proofs.lemmas.List.{append-nil, drop_more, map-append, take-append-drop, take_at, take_more, length-drop}
 use Rattle.std.proofs.lemmas.List.Concat.{flat_map-append}
 use Rattle.std.proofs.lemmas.List.Sums.{prefix_len_stops}
 use Rattle.std.proofs.lemmas.Slice.Eq.{bytes_eq-Decides}
-use Rattle.oi_base.specs.declared.memory.NoMemory.{NoMemory}
 use Rattle.oi_base.specs.Counts.{told}
 use Rattle.oi_names.specs.Names.{IsName}
 use Rattle.oi_names.specs.Portals.{IsPortal}
@@ -16,8 +14,9 @@ use Rattle.oi_text.specs.Pairs.{text_of, IsPair, ArePairs}
 use Rattle.oi_text.specs.declared.pairs.Pair.{Pair}
 use Rattle.oi_sendtargets.specs.declared.found.Found.{Found}
 use Rattle.oi_sendtargets.specs.declared.found.TargetsFault.TheVariants.{Malformed}
-use Rattle.oi_sendtargets.specs.Payloads.{target_name, target_address, Target, pair_of, target_pairs, listing_pairs, payload_of, AreNamed, CanFollow, IsStrayAt, IsStray, is_address, values, NoAddress, NoTarget, BeginsWith}
-use Rattle.oi_sendtargets.specs.Listings.{AreGiven, Adds, IsAddressOf, AddressGives, NameGives, TargetGives, IsFoundIn}
+use Rattle.oi_sendtargets.specs.Payloads.{target_name, target_address, Target, pair_of, target_pairs, listing_pairs, payload_of, AreNamed, CanFollow}
+use Rattle.oi_sendtargets.specs.Listings.{AreGiven, IsAddressOf, AddressGives, NameGives, TargetGives, IsFoundIn}
+use Rattle.oi_sendtargets.specs.Steps.{IsStray, is_address, values, NoAddress, NoTarget, BeginsWith, Adds}
 
 -- what one list gives, and then one item more
 pub given_more : {A : Type 0} (G : A → List Found → Type 0) (xs : List A) (x : A) (found here : List Found) → AreGiven G xs found → G x here → AreGiven G (xs ++ x ∷ []) (found ++ here)
@@ -122,16 +121,11 @@ pub record IsReadTo (pairs rest : List Pair) (asked : Portal) (found : List Foun
 pub none_read : (pairs : List Pair) (asked : Portal) → IsReadTo pairs pairs asked []
 none_read pairs asked = record { targets = []; whole = refl; names = tt; given = refl; end = λ some. absurd (some refl) }
 
-some_addresses : (asked : Portal) (name : List ℕ) (addresses : List Pair) (old new : List Found) → 0 < length addresses
+-- a name with addresses gives what these give
+pub some_addresses : (asked : Portal) (name : List ℕ) (addresses : List Pair) (old new : List Found) → 0 < length addresses
     → Adds (AreGiven (AddressGives name) (values addresses)) old new → Adds (NameGives asked name (values addresses)) old new
 some_addresses asked name [] old new some adds = absurd (omega arith)
 some_addresses asked name (p ∷ addresses) old new some adds = adds
-
--- a name with addresses gives what these give
-pub name_gives : (asked : Portal) (name : List ℕ) (addresses : List Pair) (old new : List Found) (r : Result (Unit {0}) NoMemory) → 0 < length addresses
-    → OnOk r (Adds (AreGiven (AddressGives name) (values addresses)) old new) → OnOk r (Adds (NameGives asked name (values addresses)) old new)
-name_gives asked name addresses old new (Ok u) some adds = some_addresses asked name addresses old new some adds
-name_gives asked name addresses old new (Err e) some adds = tt
 
 AreNamed-push : (targets : List Target) (t : Target) → AreNamed targets → IsName t.name → AreNamed (targets ++ t ∷ [])
 AreNamed-push [] t are named = (named, tt)

@@ -1,5 +1,5 @@
 -- How portals are written: those of one target that follow one another are one target.
-use Rattle.std.proofs.Common.{◌≡◌, ◌<◌, ◌≤◌, ◌+◌, ◌∙◌, ℕ, suc, zero, Bool, true, false, cond, List, [], ◌∷◌, ◌++◌, length, take, drop, get_or, map, nat_eq, refl, sym, ap, arith, append_assoc}
+use Rattle.std.proofs.Common.{◌≡◌, ◌<◌, ◌≤◌, ◌+◌, ◌∙◌, ℕ, suc, Bool, true, false, cond, List, [], ◌∷◌, ◌++◌, length, take, drop, get_or, map, nat_eq, refl, sym, ap, arith, append_assoc}
 use Rattle.std.specs.Cmp.Lexicographic.{pointwise}
 use Rattle.std.specs.List.{prefix_len}
 use Rattle.std.proofs.lemmas.List.{append-nil, map-append, take_more}
@@ -9,7 +9,8 @@ use Rattle.oi_text.specs.Pairs.{text_of, pair_text, spelled}
 use Rattle.oi_text.specs.declared.pairs.Pair.{Pair}
 use Rattle.oi_sendtargets.specs.declared.found.Found.{Found}
 use Rattle.oi_sendtargets.specs.Payloads.{target_name, target_address, Target, pair_of, target_pairs, listing_pairs, payload_of}
-use Rattle.oi_sendtargets.specs.Listings.{address_text, target_at, has_name, joined, targets_of}
+use Rattle.oi_sendtargets.specs.Listings.{address_text, target_at, joined, targets_of}
+use Rattle.oi_sendtargets.specs.Steps.{has_name}
 
 -- one portal more of a target
 pub address_written : (name : List ℕ) (places : List Found) (i : ℕ) (f : Found) → i < length places → f ≡ get_or places i f

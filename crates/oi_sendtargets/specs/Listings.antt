@@ -1,5 +1,5 @@
 -- What a payload tells of its targets, and the one payload that tells it (RFC 7143, appendix C).
-use Rattle.std.specs.Prelude.{◌≡◌, ◌≤◌, ◌⊎◌, ℕ, Bool, Option, List, [], ◌∷◌, ◌++◌, map, unwrap_or, nat_eq, if◌then◌else◌}
+use Rattle.std.specs.Prelude.{◌≡◌, ◌≤◌, ◌⊎◌, ℕ, Option, List, [], ◌∷◌, ◌++◌, map, unwrap_or, nat_eq, if◌then◌else◌}
 use Rattle.std.specs.Fmt.{decimal}
 use Rattle.std.specs.Cmp.Lexicographic.{pointwise}
 use Rattle.oi_names.specs.Names.{IsName}
@@ -14,10 +14,6 @@ use Rattle.oi_sendtargets.specs.Payloads.{Target, IsListing}
 abbrev pub AreGiven : {A : Type 0} → (A → List Found → Type 0) → List A → List Found → Type 0
 AreGiven G [] found = found ≡ []
 AreGiven G (x ∷ xs) found = (here : List Found) × (more : List Found) × (found ≡ here ++ more) × G x here × AreGiven G xs more
-
--- the list grew by what is given
-abbrev pub Adds : (List Found → Type 0) → List Found → List Found → Type 0
-Adds G old new = (more : List Found) × (new ≡ old ++ more) × G more
 
 -- the address is one of this portal with its tag, which is 1 where the address has none
 abbrev pub IsAddressOf : Found → List ℕ → Type 0
@@ -52,10 +48,6 @@ address_text f = portal_text f.portal.address f.portal.port ++ 44 ∷ decimal f.
 -- a target that is reached at these portals
 abbrev pub target_at : List ℕ → List Found → Target
 target_at name found = record { name = name; addresses = map address_text found }
-
--- the portal is one of this target
-abbrev pub has_name : List ℕ → Found → Bool
-has_name name f = pointwise nat_eq f.target name
 
 -- a portal in front of others: an address more of the first target, where that has the same name
 abbrev pub joined : Found → List Target → List Target

@@ -1,7 +1,6 @@
 -- The answer to SendTargets (RFC 7143, appendix C): the name of each target, and behind it its addresses.
-use Rattle.std.specs.Prelude.{◌≡◌, ◌≢◌, ◌⊎◌, ℕ, Bool, List, [], ◌∷◌, ◌++◌, codes, map, length, nat_eq}
+use Rattle.std.specs.Prelude.{◌≡◌, ◌≢◌, ◌⊎◌, ℕ, List, [], ◌∷◌, ◌++◌, codes, map, length}
 use Rattle.std.specs.List.{flat_map}
-use Rattle.std.specs.Cmp.Lexicographic.{pointwise}
 use Rattle.oi_base.specs.Counts.{told}
 use Rattle.oi_names.specs.Names.{IsName}
 use Rattle.oi_text.specs.Pairs.{text_of, IsText, IsMalformedAt}
@@ -48,27 +47,6 @@ pub record IsListing (pairs : List Pair) (targets : List Target) : Type 0 where
 abbrev pub CanFollow : List Target → Pair → Type 0
 CanFollow targets p = ((p.key ≡ target_name) × IsName p.value) ⊎ ((p.key ≡ target_address) × (targets ≢ []))
 
--- the pair has the key of an address
-abbrev pub is_address : Pair → Bool
-is_address p = pointwise nat_eq p.key target_address
-
-abbrev pub values : List Pair → List (List ℕ)
-values pairs = map (λ p. p.value) pairs
-
--- no address begins the pairs
-abbrev pub NoAddress : List Pair → Type 0
-NoAddress pairs = (p : Pair) (more : List Pair) → pairs ≡ p ∷ more → p.key ≡ target_address → ⊥
-
--- no target begins the pairs
-abbrev pub NoTarget : List Pair → Type 0
-NoTarget pairs = (p : Pair) (more : List Pair) → pairs ≡ p ∷ more → p.key ≡ target_name → IsName p.value → ⊥
-
--- a target begins the pairs, with all of its addresses
-pub record BeginsWith (pairs : List Pair) (name : List ℕ) (addresses more : List Pair) : Type 0 where
-  pub whole : pairs ≡ target_pairs record { name = name; addresses = values addresses } ++ more
-  pub named : IsName name
-  pub end : NoAddress more
-
 -- behind some targets comes, at this place, the first pair that cannot stand there
 pub record IsStrayAt (pairs : List Pair) (place : ℕ) : Type 0 where
   pub targets : List Target
@@ -82,11 +60,6 @@ pub record IsStrayAt (pairs : List Pair) (place : ℕ) : Type 0 where
 -- the payload is no list of targets: a piece of it is no pair, or a pair cannot stand where it does
 abbrev pub IsBadAt : List ℕ → ℕ → Type 0
 IsBadAt payload place = IsMalformedAt payload place ⊎ ((pairs : List Pair) × IsText payload pairs × IsStrayAt pairs place)
-
--- what a fault says of the pairs
-abbrev pub IsStray : List Pair → TargetsFault → Type 0
-IsStray pairs (Malformed place) = (at : ℕ) × (place ≡ told at) × IsStrayAt pairs at
-IsStray pairs Memory = Unit {0}
 
 -- what a fault says of the payload
 abbrev pub IsFault : List ℕ → TargetsFault → Type 0

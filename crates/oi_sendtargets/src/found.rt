@@ -1,4 +1,8 @@
+ghost use Rattle.std.specs.Prelude.{◌≡◌, IfOk};
+
+use oi_base::NoMemory;
 use oi_names::{IscsiName, Portal};
+use std::alloc::Global;
 use thiserror::Error;
 
 /// A portal at which a target is reached.
@@ -8,6 +12,18 @@ pub struct Found {
     pub portal: Portal,
     /// The portal group tag.
     pub tag: u16,
+}
+
+impl Found {
+    pub fn copy(&self, alloc: Global) -> Result<Found, NoMemory>
+        ensures { IfOk result (λ f. f ≡ self.now) }
+    {
+        Ok(Found {
+            target: self.target.copy(alloc)?,
+            portal: self.portal.copy(alloc)?,
+            tag: self.tag,
+        })
+    }
 }
 
 /// Why a payload was not read as a list of targets.

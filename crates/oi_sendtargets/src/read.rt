@@ -4,8 +4,9 @@ ghost use Rattle.oi_base.specs.Counts.{told};
 ghost use Rattle.oi_names.specs.Portals.{IsPortal};
 ghost use Rattle.oi_text.specs.Pairs.{text_of, pair_text, IsPair, ArePairs};
 ghost use Rattle.oi_sendtargets.specs.declared.found.Found.{Found};
-ghost use Rattle.oi_sendtargets.specs.Payloads.{is_address, values, BeginsWith, NoTarget, IsStray, IsFault};
-ghost use Rattle.oi_sendtargets.specs.Listings.{Adds, AreGiven, IsAddressOf, AddressGives, NameGives, IsFoundIn, IsFound};
+ghost use Rattle.oi_sendtargets.specs.Payloads.{IsFault};
+ghost use Rattle.oi_sendtargets.specs.Listings.{AreGiven, IsAddressOf, AddressGives, NameGives, IsFoundIn, IsFound};
+ghost use Rattle.oi_sendtargets.specs.Steps.{is_address, values, BeginsWith, NoTarget, IsStray, Adds};
 
 use crate::found::{Found, TargetsFault};
 use crate::parts::{after, before};
@@ -14,8 +15,11 @@ use oi_names::{IscsiName, NameFault, Portal};
 use oi_text::{Pair, TextFault, read_pairs};
 use std::alloc::Global;
 
-/// Reads the payload of a Text Response that answers SendTargets, which `asked` sent. A target that names no address is reached
-/// at that portal. Addresses that are no numeric portals are left out.
+// The portal group tag where none is told.
+const DEFAULT_TAG: u16 = 1;
+
+/// Reads what the portal `asked` answered to SendTargets (RFC 7143, appendix C). A target that names no address is reached at
+/// that portal. An address that is no numeric portal is left out.
 pub fn read_targets(
     alloc: Global,
     payload: &[u8],
@@ -61,13 +65,13 @@ fn read_listing(
 
 // The first target of a list, and what follows it.
 #[derive(Drop)]
-struct Listed<'a> {
+struct Piece<'a> {
     name: IscsiName,
     addresses: &'a [Pair],
     more: &'a [Pair],
 }
 
-fn first_target(alloc: Global, pairs: &[Pair]) -> Result<Option<Listed<'_>>, NoMemory>
+fn first_target(alloc: Global, pairs: &[Pair]) -> Result<Option<Piece<'_>>, NoMemory>
     ensures { IfOk result (λ first. MatchOption first (NoTarget pairs.now)
         (λ t. BeginsWith pairs.now t.name t.addresses.now t.more.now)) }
 {
@@ -84,7 +88,7 @@ fn first_target(alloc: Global, pairs: &[Pair]) -> Result<Option<Listed<'_>>, NoM
     };
     let rest = after(pairs, 1);
     let count = address_count(rest);
-    Ok(Some(Listed {
+    Ok(Some(Piece {
         name,
         addresses: before(rest, count),
         more: after(rest, count),
@@ -117,7 +121,7 @@ fn add_target(
         found.push(Found {
             target: name.copy(alloc)?,
             portal: asked.copy(alloc)?,
-            tag: 1,
+            tag: DEFAULT_TAG,
         })?;
         return Ok(());
     }
@@ -153,7 +157,7 @@ fn add_address(
             found.push(Found {
                 target: name.copy(alloc)?,
                 portal,
-                tag: tag.unwrap_or(1),
+                tag: tag.unwrap_or(DEFAULT_TAG),
             })?;
             Ok(())
         }

@@ -2,7 +2,8 @@ ghost use Rattle.std.specs.Prelude.{◌≡◌, ◌++◌, ℕ, List, OnOk, OnErr}
 ghost use Rattle.std.specs.List.{prefix_len};
 ghost use Rattle.oi_text.specs.Pairs.{text_of, spelled};
 ghost use Rattle.oi_sendtargets.specs.Payloads.{target_name, target_address, target_pairs, payload_of};
-ghost use Rattle.oi_sendtargets.specs.Listings.{address_text, target_at, targets_of, has_name};
+ghost use Rattle.oi_sendtargets.specs.Listings.{address_text, target_at, targets_of};
+ghost use Rattle.oi_sendtargets.specs.Steps.{has_name};
 
 use crate::found::Found;
 use crate::parts::{after, before};
@@ -39,27 +40,26 @@ fn append_targets(found: &[Found], out: &mut Vec<u8>) -> Result<(), NoMemory>
 fn neighbour_count(target: &IscsiName, found: &[Found]) -> usize
     ensures { result ≡ prefix_len (has_name target.now) found.now }
 {
-    found.iter().take_while(|place| has_name(target, place)).count()
+    found
+        .iter()
+        .take_while(|listed| has_name(target, listed))
+        .count()
 }
 
-fn has_name(target: &IscsiName, place: &Found) -> bool
-    ensures { result ≡ has_name target.now place.now }
+fn has_name(target: &IscsiName, listed: &Found) -> bool
+    ensures { result ≡ has_name target.now listed.now }
 {
-    place.target == *target
+    listed.target == *target
 }
 
 // Appends a name, and behind it the addresses of these portals.
-fn append_target(
-    target: &IscsiName,
-    places: &[Found],
-    out: &mut Vec<u8>,
-) -> Result<(), NoMemory>
-    ensures ok { OnOk result (out.new.items ≡ out.old.items ++ text_of (target_pairs (target_at target.now places.now))) }
+fn append_target(target: &IscsiName, found: &[Found], out: &mut Vec<u8>) -> Result<(), NoMemory>
+    ensures ok { OnOk result (out.new.items ≡ out.old.items ++ text_of (target_pairs (target_at target.now found.now))) }
     ensures err { OnErr result ((more : List ℕ) × (out.new.items ≡ out.old.items ++ more)) }
 {
     append_name(target, out)?;
-    for place in places {
-        append_address(place, out)?;
+    for listed in found {
+        append_address(listed, out)?;
     }
     Ok(())
 }
@@ -74,14 +74,14 @@ fn append_name(target: &IscsiName, out: &mut Vec<u8>) -> Result<(), NoMemory>
     Ok(())
 }
 
-fn append_address(place: &Found, out: &mut Vec<u8>) -> Result<(), NoMemory>
-    ensures ok { OnOk result (out.new.items ≡ out.old.items ++ spelled target_address (address_text place.now)) }
+fn append_address(listed: &Found, out: &mut Vec<u8>) -> Result<(), NoMemory>
+    ensures ok { OnOk result (out.new.items ≡ out.old.items ++ spelled target_address (address_text listed.now)) }
     ensures err { OnErr result ((more : List ℕ) × (out.new.items ≡ out.old.items ++ more)) }
 {
     out.extend_from_slice(b"TargetAddress=")?;
-    place.portal.write(out)?;
+    listed.portal.write(out)?;
     out.push(b',')?;
-    write_number(place.tag as u64, out)?;
+    write_number(listed.tag as u64, out)?;
     out.push(0)?;
     Ok(())
 }

@@ -1,6 +1,6 @@
 use Rattle.std.proofs.Common.{take}
-use Rattle.oi_sendtargets.specs.Payloads.{values}
-use Rattle.oi_sendtargets.specs.Listings.{Adds, AreGiven, AddressGives}
+use Rattle.oi_sendtargets.specs.Listings.{AreGiven, AddressGives}
+use Rattle.oi_sendtargets.specs.Steps.{values, Adds}
 use Rattle.oi_sendtargets.proofs.read.add_addresses.Given as goal
 
 abbrev pub invariant-loop-address : goal.invariant-loop-address

@@ -1,9 +1,10 @@
-use Rattle.std.proofs.Common.{◌≡◌, ◌≤◌, ◌∙◌, List, length, drop, take, sym, ap, arith, rules, subst}
+use Rattle.std.proofs.Common.{◌≡◌, ◌∙◌, List, drop, take, sym, ap, arith, rules, subst}
 use Rattle.std.specs.List.{prefix_len}
 use Rattle.std.proofs.lemmas.List.Sums.{prefix_len-le-length}
 use Rattle.oi_names.specs.Names.{IsName}
 use Rattle.oi_text.specs.declared.pairs.Pair.{Pair}
-use Rattle.oi_sendtargets.specs.Payloads.{target_name, is_address}
+use Rattle.oi_sendtargets.specs.Payloads.{target_name}
+use Rattle.oi_sendtargets.specs.Steps.{is_address}
 use Rattle.oi_sendtargets.proofs.Reading.{begins}
 use Rattle.oi_sendtargets.proofs.read.first_target.Goals as goal
 

@@ -1,6 +1,6 @@
 use Rattle.std.proofs.Common.{◌≡◌, length, take}
 use Rattle.oi_base.specs.Counts.{told}
-use Rattle.oi_text.specs.Pairs.{text_of, ArePairs}
+use Rattle.oi_text.specs.Pairs.{text_of}
 use Rattle.oi_sendtargets.proofs.read.place_behind.Given as goal
 
 abbrev pub invariant-loop-pair : goal.invariant-loop-pair

@@ -1,10 +1,11 @@
-use Rattle.std.proofs.Common.{◌≡◌, ◌++◌, ◌≤◌, ◌∙◌, List, ℕ, length, take, drop, sym, ap, arith}
+use Rattle.std.proofs.Common.{◌++◌, ◌∙◌, List, ℕ, length, take, drop, sym, ap, arith}
 use Rattle.std.proofs.lemmas.List.{length-drop}
 use Rattle.std.proofs.lemmas.List.Sums.{prefix_len-le-length}
 use Rattle.oi_text.specs.Pairs.{text_of}
 use Rattle.oi_sendtargets.specs.declared.found.Found.{Found}
 use Rattle.oi_sendtargets.specs.Payloads.{target_pairs, payload_of}
-use Rattle.oi_sendtargets.specs.Listings.{has_name, target_at, targets_of}
+use Rattle.oi_sendtargets.specs.Listings.{target_at, targets_of}
+use Rattle.oi_sendtargets.specs.Steps.{has_name}
 use Rattle.oi_sendtargets.proofs.Writing.{some_counted, target_written, write_on}
 use Rattle.oi_sendtargets.proofs.write.append_targets.Goals as goal
 
