@@ -1,5 +1,5 @@
 -- How far a list of pairs is read.
-use Rattle.std.proofs.Common.{◌≡◌, ◌≢◌, ◌<◌, ◌≤◌, ◌+◌, ◌-◌, ◌∙◌, ◌⊎◌, ℕ, suc, zero, Bool, true, false, cond, List, [], ◌∷◌, ◌++◌, length, take, drop, get_or, map, refl, sym, ap, subst, arith, inl, inr, append_assoc, length-append}
+use Rattle.std.proofs.Common.{◌≡◌, ◌≢◌, ◌<◌, ◌≤◌, ◌+◌, ◌-◌, ◌∙◌, ℕ, suc, zero, Bool, true, false, cond, List, [], ◌∷◌, ◌++◌, length, take, drop, get_or, map, refl, sym, ap, subst, arith, inl, inr, append_assoc, length-append}
 use Rattle.std.specs.List.{list_all, prefix_len}
 use Rattle.std.proofs.lemmas.Bool.{and_parts, and_from}
 use Rattle.std.proofs.lemmas.List.{append-nil, drop_more, map-append, take-append-drop, take_at, take_more, length-drop}
@@ -8,26 +8,20 @@ use Rattle.std.proofs.lemmas.List.Sums.{prefix_len_stops}
 use Rattle.std.proofs.lemmas.Slice.Eq.{bytes_eq-Decides}
 use Rattle.oi_base.specs.Counts.{told}
 use Rattle.oi_names.specs.Names.{IsName}
-use Rattle.oi_names.specs.Portals.{IsPortal}
 use Rattle.oi_names.specs.declared.portal.Portal.{Portal}
 use Rattle.oi_text.specs.Pairs.{text_of, IsPair, ArePairs}
 use Rattle.oi_text.specs.declared.pairs.Pair.{Pair}
 use Rattle.oi_sendtargets.specs.declared.found.Found.{Found}
 use Rattle.oi_sendtargets.specs.declared.found.TargetsFault.TheVariants.{Malformed}
 use Rattle.oi_sendtargets.specs.Payloads.{target_name, target_address, Target, pair_of, target_pairs, listing_pairs, payload_of, AreNamed, CanFollow}
-use Rattle.oi_sendtargets.specs.Listings.{AreGiven, IsAddressOf, AddressGives, NameGives, TargetGives, IsFoundIn}
-use Rattle.oi_sendtargets.specs.Steps.{IsStray, is_address, values, NoAddress, NoTarget, BeginsWith, Adds}
+use Rattle.oi_sendtargets.specs.Listings.{AreGiven, AddressGives, NameGives, TargetGives, IsFoundIn}
+use Rattle.oi_sendtargets.specs.Steps.{IsStray, is_address, values, NoAddress, NoTarget, BeginsWith, Adds, AddressAdds}
 
 -- what one list gives, and then one item more
 pub given_more : {A : Type 0} (G : A → List Found → Type 0) (xs : List A) (x : A) (found here : List Found) → AreGiven G xs found → G x here → AreGiven G (xs ++ x ∷ []) (found ++ here)
 given_more G [] x found here none gives = (here, [], ap (λ (z : List Found). z ++ here) none ∙ sym (append-nil here), gives, refl)
 given_more G (y ∷ ys) x found here (a, b, whole, first, others) gives =
     (a, b ++ here, ap (λ (z : List Found). z ++ here) whole ∙ append_assoc a b here, first, given_more G ys x b here others gives)
-
--- what one address adds
-abbrev pub AddressAdds : List ℕ → List ℕ → List Found → List Found → Type 0
-AddressAdds name address old new =
-    ((IsPortal address → ⊥) × (new ≡ old)) ⊎ ((f : Found) × (new ≡ old ++ f ∷ []) × (f.target ≡ name) × IsAddressOf f address)
 
 address_gives : (name address : List ℕ) (old new : List Found) → AddressAdds name address old new → Adds (AddressGives name address) old new
 address_gives name address old new (inl (none, same)) = ([], same ∙ sym (append-nil old), inl (none, refl))

@@ -1,13 +1,15 @@
 -- What the steps of reading and writing say.
-use Rattle.std.specs.Prelude.{◌≡◌, ℕ, Bool, List, ◌∷◌, ◌++◌, map, nat_eq}
+use Rattle.std.specs.Prelude.{◌≡◌, ◌⊎◌, ℕ, Bool, List, [], ◌∷◌, ◌++◌, map, nat_eq}
 use Rattle.std.specs.Cmp.Lexicographic.{pointwise}
 use Rattle.oi_base.specs.Counts.{told}
 use Rattle.oi_names.specs.Names.{IsName}
+use Rattle.oi_names.specs.Portals.{IsPortal}
 use Rattle.oi_text.specs.declared.pairs.Pair.{Pair}
 use Rattle.oi_sendtargets.specs.declared.found.Found.{Found}
 use Rattle.oi_sendtargets.specs.declared.found.TargetsFault.{TargetsFault}
 use Rattle.oi_sendtargets.specs.declared.found.TargetsFault.TheVariants.{Malformed, Memory}
 use Rattle.oi_sendtargets.specs.Payloads.{target_name, target_address, target_pairs, IsStrayAt}
+use Rattle.oi_sendtargets.specs.Listings.{IsAddressOf}
 
 -- the pair has the key of an address
 abbrev pub is_address : Pair → Bool
@@ -38,6 +40,11 @@ IsStray pairs Memory = Unit {0}
 -- the list grew by what is given
 abbrev pub Adds : (List Found → Type 0) → List Found → List Found → Type 0
 Adds G old new = (more : List Found) × (new ≡ old ++ more) × G more
+
+-- the list grew by the portal of this address, or stayed as it was where the address is outside the grammar of portals
+abbrev pub AddressAdds : List ℕ → List ℕ → List Found → List Found → Type 0
+AddressAdds name address old new =
+    ((IsPortal address → ⊥) × (new ≡ old)) ⊎ ((f : Found) × (new ≡ old ++ f ∷ []) × (f.target ≡ name) × IsAddressOf f address)
 
 -- the portal is one of this target
 abbrev pub has_name : List ℕ → Found → Bool

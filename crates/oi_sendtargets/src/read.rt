@@ -1,12 +1,10 @@
-ghost use Rattle.std.specs.Prelude.{◌≡◌, ◌⊎◌, ◌∷◌, ◌++◌, [], IfOk, IfErr, OnOk, MatchOption, length};
+ghost use Rattle.std.specs.Prelude.{◌≡◌, IfOk, IfErr, OnOk, MatchOption, length};
 ghost use Rattle.std.specs.List.{prefix_len};
 ghost use Rattle.oi_base.specs.Counts.{told};
-ghost use Rattle.oi_names.specs.Portals.{IsPortal};
 ghost use Rattle.oi_text.specs.Pairs.{text_of, pair_text, IsPair, ArePairs};
-ghost use Rattle.oi_sendtargets.specs.declared.found.Found.{Found};
 ghost use Rattle.oi_sendtargets.specs.Payloads.{IsFault};
-ghost use Rattle.oi_sendtargets.specs.Listings.{AreGiven, IsAddressOf, AddressGives, NameGives, IsFoundIn, IsFound};
-ghost use Rattle.oi_sendtargets.specs.Steps.{is_address, values, BeginsWith, NoTarget, IsStray, Adds};
+ghost use Rattle.oi_sendtargets.specs.Listings.{AreGiven, AddressGives, NameGives, IsFoundIn, IsFound};
+ghost use Rattle.oi_sendtargets.specs.Steps.{is_address, values, BeginsWith, NoTarget, IsStray, Adds, AddressAdds};
 
 use crate::found::{Found, TargetsFault};
 use crate::parts::{after, before};
@@ -149,8 +147,7 @@ fn add_address(
     address: &[u8],
     found: &mut Vec<Found>,
 ) -> Result<(), NoMemory>
-    ensures ok { OnOk result (((IsPortal address.now → ⊥) × (found.new.items ≡ found.old.items))
-        ⊎ ((f : Found) × (found.new.items ≡ found.old.items ++ f ∷ []) × (f.target ≡ name.now) × IsAddressOf f address.now)) }
+    ensures ok { OnOk result (AddressAdds name.now address.now found.old.items found.new.items) }
 {
     match Portal::read_bytes(alloc, address) {
         Ok((portal, tag)) => {

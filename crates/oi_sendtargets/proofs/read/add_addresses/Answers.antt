@@ -1,5 +1,6 @@
 use Rattle.std.proofs.Common.{List, ℕ, subst}
-use Rattle.oi_sendtargets.proofs.Reading.{AddressAdds, address_more}
+use Rattle.oi_sendtargets.specs.Steps.{AddressAdds}
+use Rattle.oi_sendtargets.proofs.Reading.{address_more}
 use Rattle.oi_sendtargets.proofs.read.add_addresses.Goals as goal
 
 pub loop-address-preserved : goal.loop-address-preserved
