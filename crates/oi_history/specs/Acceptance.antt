@@ -1,8 +1,7 @@
--- Which PDUs of the target count, and which break the connection (RFC 7143, section 7.8 on protocol errors).
-use Rattle.std.specs.Prelude.{ℕ, Bool, true, false, not, ◌==◌, ◌&&◌, ◌+◌, List, [], ◌∷◌, Option, Some, None, is_none, is_some, length, slice_index, nat_lt, if◌then◌else◌}
+-- Which PDUs of the target count, and which break the connection (RFC 7143, section 7.13 on protocol errors).
+use Rattle.std.specs.Prelude.{ℕ, Bool, false, not, ◌==◌, ◌&&◌, ◌+◌, List, [], ◌∷◌, Option, Some, None, is_none, length, slice_index, nat_lt, if◌then◌else◌}
 use Rattle.std.specs.Int.{from_be_bytes, w32}
 use Rattle.oi_base.specs.TagLayout.{reserved_tag}
-use Rattle.oi_base.specs.declared.serial.Serial.{Serial}
 use Rattle.oi_history.specs.Phases.{is_logged_in}
 use Rattle.oi_history.specs.Tasks.{held, is_live_on}
 use Rattle.oi_history.specs.declared.allocated.Allocated.{Allocated}
@@ -13,7 +12,7 @@ use Rattle.oi_history.specs.declared.rule.Rule.TheVariants.{WrongOpcode, Unknown
 use Rattle.oi_history.specs.declared.task.Task.{Task}
 use Rattle.oi_pdu.specs.declared.header.DataIn.{DataIn}
 use Rattle.oi_pdu.specs.declared.header.Header.{Header}
-use Rattle.oi_pdu.specs.declared.header.Header.TheVariants.{NopIn, ScsiResponse, TaskResponse, LoginResponse, TextResponse, DataIn as DataInPdu, LogoutResponse, R2t, Async, Reject}
+use Rattle.oi_pdu.specs.declared.header.Header.TheVariants.{NopIn, ScsiResponse, TaskResponse, DataIn as DataInPdu, LogoutResponse, R2t, Async, Reject}
 use Rattle.oi_pdu.specs.declared.header.R2t.{R2t as R2tHeader}
 
 -- ExpCmdSN and MaxCmdSN of a PDU of the target, and StatSN where it is its own (RFC 7143, section 4.2.2.2)

@@ -10,3 +10,13 @@ pub mod Snapshots
 pub mod Histories
 pub mod Legality
 pub mod Sending
+pub mod Courses
+pub mod Handling
+pub mod Recovering
+pub mod Connected
+pub mod Queues
+pub mod Locks
+pub mod Meanings
+pub mod Owing
+pub mod Losses
+pub mod Permitted
