@@ -1,6 +1,6 @@
 -- What a connection knows beside its commands: the tags of its other requests, which PDUs count, pings, answers that are
 -- owed, and the wish to leave (RFC 7143, sections 11.9, 11.14, 11.15, 11.18 and 11.19).
-use Rattle.std.specs.Prelude.{ℕ, Bool, true, false, not, ◌+◌, ◌==◌, ◌&&◌, ◌++◌, List, [], ◌∷◌, Option, Some, None, drop, nat_le, nat_lt, if◌then◌else◌}
+use Rattle.std.specs.Prelude.{ℕ, Bool, true, false, not, ◌+◌, ◌-◌, ◌^◌, min, ◌==◌, ◌&&◌, ◌++◌, List, [], ◌∷◌, Option, Some, None, drop, nat_le, nat_lt, if◌then◌else◌}
 use Rattle.std.specs.Option.{option_map_or}
 use Rattle.oi_base.specs.TagLayout.{age_after, management_tag, reserved_tag}
 use Rattle.oi_history.specs.Acceptance.{rule_of}
@@ -15,12 +15,16 @@ use Rattle.oi_history.specs.declared.task.Task.{Task}
 use Rattle.oi_pdu.specs.declared.header.Header.{Header}
 use Rattle.oi_pdu.specs.declared.header.Header.TheVariants.{NopIn, TaskResponse, LogoutResponse, Async}
 
+-- one tag more; far above what a connection may give the count stands still
+abbrev pub one_given : ℕ → ℕ
+one_given n = min (n + 1) (2 ^ 32 - 1)
+
 -- how many management tags the connection gave; they are numbered from 0
 abbrev pub managed_step : Event → ℕ → ℕ
 managed_step (Login generation params cmdsn max exp_stat) n = 0
-managed_step (Manage generation tag function subject) n = n + 1
-managed_step (Logout generation tag) n = n + 1
-managed_step (Nop generation tag ttt lun) n = if tag == reserved_tag then n else n + 1
+managed_step (Manage generation tag function subject) n = one_given n
+managed_step (Logout generation tag) n = one_given n
+managed_step (Nop generation tag ttt lun) n = if tag == reserved_tag then n else one_given n
 managed_step e n = n
 
 -- the tag was given to a management PDU of this connection

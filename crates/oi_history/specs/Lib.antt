@@ -20,3 +20,4 @@ pub mod Meanings
 pub mod Owing
 pub mod Losses
 pub mod Permitted
+pub mod Trackers

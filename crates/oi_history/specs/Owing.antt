@@ -1,12 +1,13 @@
 -- What is sent next, once all ended tags are released, and as which PDU (RFC 7143, sections 11.3, 11.5, 11.7, 11.14 and
 -- 11.18).
-use Rattle.std.specs.Prelude.{ℕ, Bool, true, false, not, ◌==◌, ◌&&◌, ◌++◌, List, [], ◌∷◌, Option, Some, None, count_by, drop, is_some, length, map, replicate, slice_get, take, nat_lt, if◌then◌else◌}
+use Rattle.std.specs.Prelude.{ℕ, Bool, true, false, not, ◌==◌, ◌&&◌, ◌||◌, ◌++◌, List, [], ◌∷◌, Option, Some, None, count_by, drop, is_some, length, map, replicate, slice_get, take, nat_lt, if◌then◌else◌}
 use Rattle.std.specs.List.{position}
 use Rattle.std.specs.Option.{option_map_or}
 use Rattle.oi_base.specs.TagLayout.{age_after, management_tag, reserved_tag}
 use Rattle.oi_base.specs.declared.tag.Tag.{Tag}
 use Rattle.oi_history.specs.Handling.{is_idle, is_live, lun_at}
 use Rattle.oi_history.specs.Meanings.{Meanings, last_issue, meanings}
+use Rattle.oi_history.specs.Phases.{has_connection}
 use Rattle.oi_history.specs.Queues.{drawable, drawn}
 use Rattle.oi_history.specs.Sending.{command_pdu}
 use Rattle.oi_history.specs.Tasks.{is_waiting}
@@ -100,10 +101,10 @@ next_after_data C generation m =
     or_else (logout_next generation m) (or_else (managed_next generation (next_management m) m.handler) (or_else (echo_next generation m.echoes)
     (or_else (ping_next C generation m) (or_else (drawn_next generation m) (issue_next C generation m)))))
 
--- on a broken connection only data that wait are sent, and after a Logout nothing
+-- on a broken connection only data that wait are sent, and after a Logout, or without a connection, nothing
 abbrev pub next_in : SessionConfig → ℕ → Meanings → List Event
 next_in C generation m =
-    if m.logout_sent then [] else or_else (queued_next generation m.queue) (if is_some m.broken then [] else next_after_data C generation m)
+    if m.logout_sent || not (has_connection m.phase) then [] else or_else (queued_next generation m.queue) (if is_some m.broken then [] else next_after_data C generation m)
 
 -- the release of all tags that have ended
 abbrev pub released_by : List Tag → List Numbered → List Numbered

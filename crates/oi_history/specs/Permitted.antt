@@ -45,7 +45,7 @@ IsTagged m e = Unit {0}
 -- 6: data that are sent are those that wait first, and their tag is in use for their submission
 abbrev pub IsNextData : Meanings → Event → Type 0
 IsNextData m (Push id generation ttt number offset size last) =
-    (q : Queued) × (slice_get m.queue 0 ≡ Some q) × (push_of generation q ≡ Push id generation ttt number offset size last) × (holder q.tag.0 m.busy ≡ Some id)
+    (q : Queued) × (slice_get m.queue 0 ≡ Some q) × (push_of m.generation q ≡ Push id generation ttt number offset size last) × (holder q.tag.0 m.busy ≡ Some id)
 IsNextData m e = Unit {0}
 
 -- 7: the tag that is released ended first

@@ -5,8 +5,11 @@ mod acceptance;
 mod allocated;
 mod command;
 mod config;
+mod connected;
+mod course;
 mod event;
 mod fate;
+mod handling;
 mod numbers;
 mod owed;
 mod phase;
@@ -17,6 +20,9 @@ mod sending;
 mod state;
 mod tables;
 mod task;
+#[cfg(test)]
+mod tests;
+mod tracker;
 
 pub use allocated::Allocated;
 pub use command::Command;
@@ -30,3 +36,4 @@ pub use reply::ReplyData;
 pub use rule::Rule;
 pub use state::State;
 pub use task::{Received, Task};
+pub use tracker::Tracker;

@@ -1,0 +1,111 @@
+ghost use Rattle.std.specs.Prelude.{◌≡◌, ◌++◌, ◌<◌, ◌+◌, ◌-◌, ◌^◌, ◌∷◌, [], OnOk, OnErr};
+ghost use Rattle.oi_history.specs.Connected.{asked_step, asked_told, echoes_step, echoes_told, given_rule, heard_step, is_given, is_its_tag, is_logout_response, leaving_step, logged_out_step, logout_step, managed_step, ping_step, ping_told, rule_on};
+
+use crate::acceptance::rule_of;
+use crate::allocated::Allocated;
+use crate::event::Event;
+use crate::owed::{Echo, Ping};
+use crate::rule::Rule;
+use crate::task::Task;
+use oi_base::{NoMemory, Tag, TagKind, age_of};
+use oi_pdu::Header;
+
+const RESERVED: u32 = u32::MAX;
+
+/// How many management tags the connection gave after an event.
+pub fn managed_step(event: &Event, before: u32) -> u32
+    ensures { result ≡ managed_step event.now before }
+{
+    match event {
+        Event::Login { .. } => 0,
+        Event::Manage { .. } | Event::Logout { .. } => before.saturating_add(1),
+        Event::Nop { tag, .. } if *tag != RESERVED => before.saturating_add(1),
+        _ => before,
+    }
+}
+
+/// The reading at the login or at the last PDU that counted.
+pub fn heard_step(now: u64, accepted: bool, event: &Event, heard: u64) -> u64
+    ensures { result ≡ heard_step now accepted event.now heard }
+{
+    match event {
+        Event::Login { .. } => now,
+        Event::PduIn { .. } if accepted => now,
+        _ => heard,
+    }
+}
+
+fn is_its_tag(tag: Tag, ping: Option<Ping>) -> bool
+    ensures { result ≡ is_its_tag tag.0 ping }
+{
+    match ping {
+        Some(ping) => ping.tag.0 == tag.0,
+        None => false,
+    }
+}
+
+fn ping_told(head: &Header, ping: Option<Ping>) -> Option<Ping>
+    ensures { result ≡ ping_told head.now ping }
+{
+    match head {
+        Header::NopIn(h) if is_its_tag(h.tag, ping) => None,
+        _ => ping,
+    }
+}
+
+/// The ping that is not answered yet.
+pub fn ping_step(now: u64, accepted: bool, event: &Event, ping: Option<Ping>) -> Option<Ping>
+    ensures { result ≡ ping_step now accepted event.now ping }
+{
+    match event {
+        Event::Login { .. } | Event::Lost { .. } => None,
+        Event::Nop { tag, .. } if *tag != RESERVED => Some(Ping {
+            tag: Tag(*tag),
+            sent: now,
+        }),
+        Event::PduIn { pdu, .. } if accepted => ping_told(&pdu.head, ping),
+        _ => ping,
+    }
+}
+
+/// A logout was asked for on the connection.
+pub fn leaving_step(event: &Event, leaving: bool) -> bool
+    ensures { result ≡ leaving_step event.now leaving }
+{
+    match event {
+        Event::Leave => true,
+        Event::Lost { .. } => false,
+        _ => leaving,
+    }
+}
+
+/// The Logout Request was sent.
+pub fn logout_step(event: &Event, sent: bool) -> bool
+    ensures { result ≡ logout_step event.now sent }
+{
+    match event {
+        Event::Logout { .. } => true,
+        Event::Lost { .. } | Event::Login { .. } => false,
+        _ => sent,
+    }
+}
+
+fn is_logout_response(head: &Header) -> bool
+    ensures { result ≡ is_logout_response head.now }
+{
+    match head {
+        Header::LogoutResponse(_) => true,
+        _ => false,
+    }
+}
+
+/// A Logout Response counted after the logout was asked for.
+pub fn logged_out_step(accepted: bool, leaving: bool, event: &Event, done: bool) -> bool
+    ensures { result ≡ logged_out_step accepted leaving event.now done }
+{
+    match event {
+        Event::PduIn { pdu, .. } if accepted && leaving && is_logout_response(&pdu.head) => true,
+        Event::Lost { .. } => false,
+        _ => done,
+    }
+}
