@@ -1,0 +1,6 @@
+//! Two locks with one numbering.
+#![tactic(auto)]
+
+mod half;
+mod rule;
+mod view;
