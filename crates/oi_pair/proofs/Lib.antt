@@ -1,3 +1,6 @@
+pub mod Counter
+pub mod Leaves
 pub mod Lists
-pub mod Moves
 pub mod Places
+pub mod Sounds
+pub mod Takes

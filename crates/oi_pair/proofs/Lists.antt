@@ -169,6 +169,11 @@ times_has (x ∷ xs) k h = dite (ℕ_discrete x k) (λ e. inl e) (λ away. inr (
 pub has_of : (xs ys : List ℕ) (k : ℕ) → 0 < times k xs + times k ys → Has xs k ⊎ Has ys k
 has_of xs ys k h = ⊎_elim (λ (a : Has xs k). inl a) (λ (b : Has ys k). inr b) (has_append xs ys k (times_has (xs ++ ys) k (let t = times_append k xs ys in omega arith)))
 
+pub one_of_three : (xs ys zs : List ℕ) (k : ℕ) → 0 < times k xs + times k ys + times k zs → Has xs k ⊎ (Has ys k ⊎ Has zs k)
+one_of_three xs ys zs k h =
+    let t = times_append k ys zs in
+    ⊎_elim (λ (a : Has xs k). inl a) (λ (b : Has (ys ++ zs) k). inr (has_append ys zs k b)) (has_of xs (ys ++ zs) k (omega arith))
+
 pub part_times : (xs ys : List ℕ) (k : ℕ) → IsPart xs ys → times k xs ≤ times k ys
 part_times [] ys k h = omega arith
 part_times (x ∷ xs) [] k h = absurd h

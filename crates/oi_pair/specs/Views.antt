@@ -115,7 +115,7 @@ module _ {E X : Type 0} where
     pub own : (k : ℕ) → Has v.numbers k → k < n
     pub forward : v.forward.holds ≡ true → (k : ℕ) → Has (numbers_of v.forward.kept) k → k < n
     pub back : v.back.holds ≡ true → (k : ℕ) → Has (numbers_of v.back.kept) k → k < n
-    pub both : v.forward.holds ≡ true → v.back.holds ≡ true → (k : ℕ) → k < n → Has (numbers_of v.forward.kept) k ⊎ Has (numbers_of v.back.kept) k ⊎ Has v.forward.drawn k
+    pub both : v.forward.holds ≡ true → v.back.holds ≡ true → (k : ℕ) → k < n → Has (numbers_of v.forward.kept) k ⊎ (Has (numbers_of v.back.kept) k ⊎ Has v.forward.drawn k)
 
   -- What a seat finds after a join: the longer list of each half begins with both, no number was drawn twice, and its parts are at most all of them
   pub record IsMet (v : View E X) : Type 0 where

@@ -1,4 +1,4 @@
--- Each step keeps the rule of a pair's table, and tells what it says.
+-- The takes keep the rule, and tell what they say.
 use Rattle.std.proofs.Common.{◌≡◌, ◌≢◌, ◌⊎◌, ◌≤◌, ◌<◌, ◌+◌, ◌-◌, ◌%◌, ◌^◌, eqb, nat_lt, ◌||◌, ℕ, zero, suc, List, [], ◌∷◌, ◌++◌, length, drop, set, Option, Some, None, Bool, true, false, refl, sym, ap, ◌∙◌, subst, ⊎_elim, inl, inr, arith, append_assoc, length-append}
 use Rattle.std.proofs.lemmas.List.{append-nil}
 use Rattle.std.proofs.lemmas.Bool.Decides.{nat_tests}
@@ -21,147 +21,13 @@ use Rattle.oi_pair.specs.Views.{outside, inside, drawn_after, drew_beside, added
 use Rattle.oi_pair.specs.Kept.{Slot, at_home, table_of, total, Place, Sits, Tied, Joint, Fits, IsPlaced, Sound, Keep, Kept, TookForward, TakesForward, TookBack, TakesBack, TookBackToo, TakesBackToo, TriesBack, Draws, LeavesForward, LeavesBack, Meets}
 use Rattle.oi_pair.proofs.Lists.{off, bit_small, bit_below, bit_past, bit_same, bit_apart, bit_more, has_append, has_left, has_right, in_range, at_end, total_set, total_end, total_one, total_two, total_alone, others_none, times_append, times_end, has_times, times_has, has_of, part_times, numbers_append, numbers_length, has_number, number_left, number_right, number_of, pigeons}
 use Rattle.oi_pair.proofs.Places.{one_holder, tied_set, tied_keep, tied_count, tied_takes, tied_leaves, tied_draws, tied_splits, tied_joins, tied_meets}
-
-module _ {E X : Type 0} where
-  -- each seat's view fits after one has changed
-  fits_set : (p : Joint E X) (views : List (View E X)) (id : ℕ) (w : View E X)
-      → ((j : ℕ) (u : View E X) → j ≢ id → get_elem? views j ≡ some u → Fits p u) → Fits p w
-      → (j : ℕ) (u : View E X) → get_elem? (set views id w) j ≡ some u → Fits p u
-  fits_set p views id w others mine j u e =
-      ⊎_elim
-      (λ (x : (j ≡ id) × (w ≡ u)). subst (Fits p) x.1 mine)
-      (λ (x : (j ≢ id) × (get_elem? views j ≡ some u)). others j u x.0 x.1)
-      (at_set views id j w u e)
-
-  -- a change of one view in which its numbers stay keeps the account of numbers
-  once_keep : (n : ℕ) (views : List (View E X)) (id : ℕ) (v w : View E X) → get_elem? views id ≡ some v → w.numbers ≡ v.numbers
-      → ((k : ℕ) → total (λ (v : View E X). times k v.numbers) views ≡ bit (nat_lt k n)) → (k : ℕ) → total (λ (v : View E X). times k v.numbers) (set views id w) ≡ bit (nat_lt k n)
-  once_keep n views id v w at same h k =
-      let t = total_set (λ (x : View E X). times k x.numbers) views id v w at in
-      let e = ap (times k) same in
-      let o = h k in
-      omega arith
-
-  parts_keep : (views : List (View E X)) (id : ℕ) (v w : View E X) → get_elem? views id ≡ some v → w.parts ≡ v.parts
-      → total (λ (v : View E X). v.parts) views ≡ 65536 → total (λ (v : View E X). v.parts) (set views id w) ≡ 65536
-  parts_keep views id v w at same h = let t = total_set (λ (x : View E X). x.parts) views id v w at in omega arith
-
-  -- a number that a seat carries is below the counter
-  own_below : (ahead behind : Bool) (p : Joint E X) (views : List (View E X)) (id : ℕ) (v : View E X) → Sound ahead behind p views → get_elem? views id ≡ some v → (k : ℕ) → 0 < times k v.numbers → k < p.counter
-  own_below ahead behind p views id v h at k has =
-      let t = total_one (λ (x : View E X). times k x.numbers) views id v at in
-      let o = h.once k in
-      dite (dec_lt k p.counter) (λ below. below) (λ past. absurd (let b = bit_past k p.counter (omega arith) in omega arith))
-
-  -- no number is carried by two seats
-  carried_once : (ahead behind : Bool) (p : Joint E X) (views : List (View E X)) (i j : ℕ) (v u : View E X) → Sound ahead behind p views → i ≢ j → get_elem? views i ≡ some v → get_elem? views j ≡ some u
-      → (k : ℕ) → 0 < times k v.numbers → 0 < times k u.numbers → ⊥
-  carried_once ahead behind p views i j v u h apart at there k a b =
-      let t = total_two (λ (x : View E X). times k x.numbers) views i j v u apart at there in
-      let o = h.once k in
-      let s = bit_small (nat_lt k p.counter) in
-      omega arith
-
-  -- where one seat has all parts and no number waits, its numbers are those of the two lists
-  whole_of : (ahead behind : Bool) (p : Joint E X) (views : List (View E X)) (id : ℕ) (v : View E X) → Sound ahead behind p views → get_elem? views id ≡ some v → v.parts ≡ 65536 → p.forward.drawn ≡ [] → p.back.drawn ≡ []
-      → IsWhole v.numbers p.forward.list p.back.list
-  whole_of ahead behind p views id v h at all no_forward no_back =
-      let once : (k : ℕ) → times k v.numbers ≡ bit (nat_lt k p.counter) = λ k.
-          sym (total_alone (λ (x : View E X). x.parts) (λ (x : View E X). times k x.numbers) views id v (λ j u e none. ap (times k) ((h.each j u e).idle none).0) at (h.parts ∙ sym all)) ∙ h.once k in
-      let carried : (k : ℕ) → k < p.counter → Has v.numbers k = λ k below. times_has v.numbers k (let o = once k in let b = bit_below k p.counter below in omega arith) in record {
-        counter = p.counter;
-        once = once;
-        listed = λ k has. has_of (numbers_of p.forward.list) (numbers_of p.back.list) k
-            (let placed : IsPlaced p k = h.placed k (own_below ahead behind p views id v h at k (has_times v.numbers k has)) in
-            let a = ap (times k) no_forward in
-            let b = ap (times k) no_back in
-            omega arith);
-        in_forward = λ k has. carried k (h.forward.below k has);
-        in_back = λ k has. carried k (h.back.below k has);
-        alike = h.agree;
-      }
-
-  -- the counter is small, since each number below it is placed
-  counter_small : (ahead behind : Bool) (p : Joint E X) (views : List (View E X)) → Sound ahead behind p views → p.counter ≤ 4000000
-  counter_small ahead behind p views h =
-      let forward = numbers_of p.forward.list ++ p.forward.drawn in
-      let back = numbers_of p.back.list ++ p.back.drawn in
-      let all = pigeons p.counter (forward ++ back) (λ k below.
-          let placed : IsPlaced p k = h.placed k below in
-          let a = times_append k forward back in
-          let b = times_append k (numbers_of p.forward.list) p.forward.drawn in
-          let c = times_append k (numbers_of p.back.list) p.back.drawn in
-          omega arith) in
-      let x = h.forward.few in
-      let y = h.back.few in
-      let a = length-append forward back in
-      let b = length-append (numbers_of p.forward.list) p.forward.drawn in
-      let c = length-append (numbers_of p.back.list) p.back.drawn in
-      let d = numbers_length p.forward.list in
-      let e = numbers_length p.back.list in
-      omega arith
-
-drawn_more : (h : Bool) (ns : List ℕ) (n k : ℕ) → times k ns ≤ times k (drawn_after h ns n)
-drawn_more true ns n k = let t = times_end k ns n in omega arith
-drawn_more false ns n k = omega arith
-
-drawn_new : (h : Bool) (ns : List ℕ) (n : ℕ) → h ≡ true → 0 < times n (drawn_after h ns n)
-drawn_new true ns n is = let t = times_end n ns n in let b = bit_same n in omega arith
-drawn_new false ns n is = absurd (off is)
-
-drawn_old : (h : Bool) (ns : List ℕ) (n k : ℕ) → k ≢ n → times k (drawn_after h ns n) ≡ times k ns
-drawn_old true ns n k apart = let t = times_end k ns n in let b = bit_apart n k (λ e. apart (sym e)) in omega arith
-drawn_old false ns n k apart = refl
-
-drawn_both : (h i : Bool) (ms ns : List ℕ) (n k : ℕ) → h ≡ true → i ≡ true → times k ms ≤ times k ns → times k (drawn_after h ms n) ≤ times k (drawn_after i ns n)
-drawn_both true true ms ns n k x y le = let a = times_end k ms n in let b = times_end k ns n in omega arith
-drawn_both false i ms ns n k x y le = absurd (off x)
-drawn_both true false ms ns n k x y le = absurd (off y)
-
-either_true : (h i : Bool) → (h || i) ≡ true → (h ≡ true) ⊎ (i ≡ true)
-either_true true i e = inl refl
-either_true false i e = inr e
-
-is_false : (b : Bool) → (b ≡ true → ⊥) → b ≡ false
-is_false true h = absurd (h refl)
-is_false false h = refl
-
-same_some : {A : Type 0} (x y : A) → Some x ≡ Some y → x ≡ y
-same_some x y e = cc
-
--- no step's telling depends on the step's own record
-module _ {S : Type 0} where
-  abbrev any : Step S
-  any = step 0 0 0 0 none
+use Rattle.oi_pair.proofs.Sounds.{fits_set, once_keep, parts_keep, own_below, carried_once, whole_of, counter_small, drawn_more, drawn_new, drawn_old, drawn_both, either_true, is_false, same_some, any, Steps, allows, fails}
 
 module _ {E X F B : Type 0} (fe : F → List (ℕ × E)) (fs : F → X) (be : B → List (ℕ × E)) (bs : B → X) where
-  -- the seat can make the step in this table
-  abbrev Steps : ℕ → Me (Slot F B) (View E X) → ℕ → (ℕ → ℕ) → (ℕ → Me (Slot F B) (View E X) → Type 0) → State (Slot F B) (View E X) → Type 0
-  Steps id m i f tells t = (w : View E X) × (a : Act (Slot F B)) × Valid t.homes m.1 a × Kept fe fs be bs (stepped t i (f (slice_index t.words i)) id m.1 w a) × tells (slice_index t.words i) (w, carried_after m.1 a)
-
-  -- a step is allowed where it can be made in each table that the rule lets be
-  allows : (slots id : ℕ) (m : Me (Slot F B) (View E X)) (i : ℕ) (f : ℕ → ℕ) (tells : ℕ → Me (Slot F B) (View E X) → Type 0)
-      → ((ahead behind : Bool) (p : Joint E X) (h : F) (b : B) (views : List (View E X)) → Keep fe fs be bs ahead behind p h b → Sound ahead behind p views → get_elem? views id ≡ some m.0 → Steps id m i f tells (table_of ahead behind p.counter h b views))
-      → Allows (Kept fe fs be bs) slots id m i f tells
-  allows slots id m i f tells can s h len at fits = subst (Steps id m i f tells) (sym h.5) (can h.0 h.1 h.2 h.3 h.4 s.views h.6 h.7 at)
-
-  -- a try that fails
-  fails : (id : ℕ) (v w : View E X) (ahead behind : Bool) (p : Joint E X) (views : List (View E X)) → Sound ahead behind p views → get_elem? views id ≡ some v
-      → w.forward ≡ v.forward → w.back ≡ v.back → w.numbers ≡ v.numbers → w.parts ≡ v.parts → Fits p w → Sound ahead behind p (set views id w)
-  fails id v w ahead behind p views h at forward back numbers parts mine = record {
-    forward = tied_keep (λ (x : View E X). x.forward) ahead p.counter p.forward views id v w h.forward at forward (λ k. let e = ap (times k) numbers in omega arith);
-    back = tied_keep (λ (x : View E X). x.back) behind p.counter p.back views id v w h.back at back (λ k. let e = ap (times k) numbers in omega arith);
-    each = fits_set p views id w (λ j u apart e. h.each j u e) mine;
-    placed = h.placed;
-    once = once_keep p.counter views id v w at numbers h.once;
-    agree = h.agree;
-    parts = parts_keep views id v w at parts h.parts;
-  }
-
   -- the try for the forward half
   takes_forward_at : (id : ℕ) (v : View E X) → 0 < v.parts → HoldsNone v → (ahead behind : Bool) (p : Joint E X) (f : F) (b : B) (views : List (View E X)) → Keep fe fs be bs ahead behind p f b → Sound ahead behind p views → get_elem? views id ≡ some v
-      → Steps id (v, []) 0 (λ n. either (eqb n 0) 1 n) (TakesForward fe fs any (v, [])) (table_of ahead behind p.counter f b views)
-  takes_forward_at id v alive free true behind p f b views k h at = (v, keeps, tt, (true, behind, p, f, b, refl, k, fails id v v true behind p views h at refl refl refl refl (h.each id v at)), refl)
+      → Steps fe fs be bs id (v, []) 0 (λ n. either (eqb n 0) 1 n) (TakesForward fe fs any (v, [])) (table_of ahead behind p.counter f b views)
+  takes_forward_at id v alive free true behind p f b views k h at = (v, keeps, tt, (true, behind, p, f, b, refl, k, fails fe fs be bs id v v true behind p views h at refl refl refl refl (h.each id v at)), refl)
   takes_forward_at id v alive free false behind p f b views k h at =
       let w = took_forward v (fe f) (fs f) in
       let q = record p { forward = record (p.forward) { holder = id } } in
@@ -208,8 +74,8 @@ module _ {E X F B : Type 0} (fe : F → List (ℕ × E)) (fs : F → X) (be : B 
 
   -- the try for the back half alone
   takes_back_at : (id : ℕ) (v : View E X) → 0 < v.parts → HoldsNone v → (ahead behind : Bool) (p : Joint E X) (f : F) (b : B) (views : List (View E X)) → Keep fe fs be bs ahead behind p f b → Sound ahead behind p views → get_elem? views id ≡ some v
-      → Steps id (v, []) 1 (λ n. either (eqb n 0) 1 n) (TakesBack be bs any (v, [])) (table_of ahead behind p.counter f b views)
-  takes_back_at id v alive free ahead true p f b views k h at = (v, keeps, tt, (ahead, true, p, f, b, refl, k, fails id v v ahead true p views h at refl refl refl refl (h.each id v at)), refl)
+      → Steps fe fs be bs id (v, []) 1 (λ n. either (eqb n 0) 1 n) (TakesBack be bs any (v, [])) (table_of ahead behind p.counter f b views)
+  takes_back_at id v alive free ahead true p f b views k h at = (v, keeps, tt, (ahead, true, p, f, b, refl, k, fails fe fs be bs id v v ahead true p views h at refl refl refl refl (h.each id v at)), refl)
   takes_back_at id v alive free ahead false p f b views k h at =
       let w = took_back v (be b) (bs b) in
       let q = record p { back = record (p.back) { holder = id } } in
@@ -254,7 +120,7 @@ module _ {E X F B : Type 0} (fe : F → List (ℕ × E)) (fs : F → X) (be : B 
 
   -- the back half is taken beside the forward half
   takes_back_too_at : (id : ℕ) (v : View E X) (c : List (ℕ × Slot F B)) → 0 < v.parts → HoldsForward v → (ahead : Bool) (p : Joint E X) (f : F) (b : B) (views : List (View E X)) → Keep fe fs be bs ahead false p f b → Sound ahead false p views → get_elem? views id ≡ some v
-      → Steps id (v, c) 1 (λ n. either (eqb n 0) 1 n) (λ found n. TookBackToo be bs (v, c) n) (table_of ahead false p.counter f b views)
+      → Steps fe fs be bs id (v, c) 1 (λ n. either (eqb n 0) 1 n) (λ found n. TookBackToo be bs (v, c) n) (table_of ahead false p.counter f b views)
   takes_back_too_at id v c alive has ahead p f b views k h at =
       let w = took_back_too v (be b) in
       let q = record p { back = record (p.back) { holder = id } } in
@@ -301,3 +167,32 @@ module _ {E X F B : Type 0} (fe : F → List (ℕ × E)) (fs : F → X) (be : B 
           whole = λ all none. subst (λ (l : List (ℕ × E) × List (ℕ × E)). IsWhole v.numbers l.0 l.1) (λ i. (sym front.2 i, sym k.back i)) (whole_of ahead false p views id v h at all (sym front.3 ∙ none) (h.back.idle refl));
         },
       )
+
+  pub takes_forward : (slots id : ℕ) (m : Me (Slot F B) (View E X)) → m.1 ≡ [] → 0 < m.0.parts → HoldsNone m.0 → Allows (Kept fe fs be bs) slots id m 0 (λ n. either (eqb n 0) 1 n) (TakesForward fe fs any m)
+  takes_forward slots id m nothing alive free =
+      subst (λ (c : List (ℕ × Slot F B)). Allows (Kept fe fs be bs) slots id (m.0, c) 0 (λ n. either (eqb n 0) 1 n) (TakesForward fe fs any (m.0, c))) (sym nothing)
+      (allows fe fs be bs slots id (m.0, []) 0 (λ n. either (eqb n 0) 1 n) (TakesForward fe fs any (m.0, [])) (takes_forward_at id m.0 alive free))
+
+  pub takes_back : (slots id : ℕ) (m : Me (Slot F B) (View E X)) → m.1 ≡ [] → 0 < m.0.parts → HoldsNone m.0 → Allows (Kept fe fs be bs) slots id m 1 (λ n. either (eqb n 0) 1 n) (TakesBack be bs any m)
+  takes_back slots id m nothing alive free =
+      subst (λ (c : List (ℕ × Slot F B)). Allows (Kept fe fs be bs) slots id (m.0, c) 1 (λ n. either (eqb n 0) 1 n) (TakesBack be bs any (m.0, c))) (sym nothing)
+      (allows fe fs be bs slots id (m.0, []) 1 (λ n. either (eqb n 0) 1 n) (TakesBack be bs any (m.0, [])) (takes_back_at id m.0 alive free))
+
+  waits_too : (id : ℕ) (m : Me (Slot F B) (View E X)) → 0 < m.0.parts → HoldsForward m.0 → (ahead behind : Bool) (p : Joint E X) (f : F) (b : B) (views : List (View E X)) → Keep fe fs be bs ahead behind p f b → Sound ahead behind p views → get_elem? views id ≡ some m.0
+      → Steps fe fs be bs id m 1 (λ n. either (eqb n 0) 1 n) (TakesBackToo be bs any m) (table_of ahead behind p.counter f b views)
+  waits_too id m alive has ahead true p f b views k h at = (m.0, keeps, tt, (ahead, true, p, f, b, refl, k, fails fe fs be bs id m.0 m.0 ahead true p views h at refl refl refl refl (h.each id m.0 at)), refl)
+  waits_too id m alive has ahead false p f b views k h at = takes_back_too_at id m.0 m.1 alive has ahead p f b views k h at
+
+  pub takes_back_too : (slots id : ℕ) (m : Me (Slot F B) (View E X)) → 0 < m.0.parts → HoldsForward m.0 → Allows (Kept fe fs be bs) slots id m 1 (λ n. either (eqb n 0) 1 n) (TakesBackToo be bs any m)
+  takes_back_too slots id m alive has = allows fe fs be bs slots id m 1 (λ n. either (eqb n 0) 1 n) (TakesBackToo be bs any m) (waits_too id m alive has)
+
+  tries_once : (id : ℕ) (m : Me (Slot F B) (View E X)) → 0 < m.0.parts → HoldsForward m.0 → (ahead behind : Bool) (p : Joint E X) (f : F) (b : B) (views : List (View E X)) → Keep fe fs be bs ahead behind p f b → Sound ahead behind p views → get_elem? views id ≡ some m.0
+      → Steps fe fs be bs id m 1 (λ n. either (eqb n 0) 1 n) (TriesBack be bs any m) (table_of ahead behind p.counter f b views)
+  tries_once id m alive has ahead true p f b views k h at =
+      let g = h.each id m.0 at in
+      let w = kept_out m.0 in
+      (w, keeps, tt, (ahead, true, p, f, b, refl, k, fails fe fs be bs id m.0 w ahead true p views h at refl refl refl refl record { told_forward = g.told_forward; told_back = g.told_back; both = g.both; left_there = g.left_there; left_all = g.left_all; new_forward = g.new_forward; idle = g.idle }), refl)
+  tries_once id m alive has ahead false p f b views k h at = takes_back_too_at id m.0 m.1 alive has ahead p f b views k h at
+
+  pub tries_back : (slots id : ℕ) (m : Me (Slot F B) (View E X)) → 0 < m.0.parts → HoldsForward m.0 → Allows (Kept fe fs be bs) slots id m 1 (λ n. either (eqb n 0) 1 n) (TriesBack be bs any m)
+  tries_back slots id m alive has = allows fe fs be bs slots id m 1 (λ n. either (eqb n 0) 1 n) (TriesBack be bs any m) (tries_once id m alive has)
