@@ -230,7 +230,7 @@ module _ {E X F B : Type 0} (fe : F → List (ℕ × E)) (fs : F → X) (be : B 
       let at = end.1.1 in
       let sound = h.7 in
       let idle : (j : ℕ) (u : View E X) → j ≢ id → get_elem? s.views j ≡ some u → (u.forward.holds ≡ false) × (u.back.holds ≡ false) = λ j u apart e.
-          let t = (sound.each j u e).idle (others_none (λ (x : View E X). x.parts) s.views id j v u (λ e. apart (sym e)) at e (sound.parts ∙ sym all)) in (t.1, t.2) in
+      let t = (sound.each j u e).idle (others_none (λ (x : View E X). x.parts) s.views id j v u (λ e. apart (sym e)) at e (sound.parts ∙ sym all)) in (t.1, t.2) in
       closes_at id v all rests h.0 h.1 h.2 h.3 h.4 s.views h.6 sound at slots
       (λ k y e. end.4 k y (ap (λ (t : State (Slot F B) (View E X)). get_elem? t.homes k) h.5 ∙ e))
       (none_held (λ (x : View E X). x.forward) h.0 h.2 h.2.forward s.views id v sound.forward at rests.forward (λ j u apart e. (idle j u apart e).0))

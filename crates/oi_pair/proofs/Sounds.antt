@@ -67,7 +67,7 @@ module _ {E X : Type 0} where
       → IsWhole v.numbers p.forward.list p.back.list
   whole_of ahead behind p views id v h at all no_forward no_back =
       let once : (k : ℕ) → times k v.numbers ≡ bit (nat_lt k p.counter) = λ k.
-          sym (total_alone (λ (x : View E X). x.parts) (λ (x : View E X). times k x.numbers) views id v (λ j u e none. ap (times k) ((h.each j u e).idle none).0) at (h.parts ∙ sym all)) ∙ h.once k in
+      sym (total_alone (λ (x : View E X). x.parts) (λ (x : View E X). times k x.numbers) views id v (λ j u e none. ap (times k) ((h.each j u e).idle none).0) at (h.parts ∙ sym all)) ∙ h.once k in
       let carried : (k : ℕ) → k < p.counter → Has v.numbers k = λ k below. times_has v.numbers k (let o = once k in let b = bit_below k p.counter below in omega arith) in record {
         counter = p.counter;
         once = once;
@@ -87,11 +87,11 @@ module _ {E X : Type 0} where
       let forward = numbers_of p.forward.list ++ p.forward.drawn in
       let back = numbers_of p.back.list ++ p.back.drawn in
       let all = pigeons p.counter (forward ++ back) (λ k below.
-          let placed : IsPlaced p k = h.placed k below in
-          let a = times_append k forward back in
-          let b = times_append k (numbers_of p.forward.list) p.forward.drawn in
-          let c = times_append k (numbers_of p.back.list) p.back.drawn in
-          omega arith) in
+      let placed : IsPlaced p k = h.placed k below in
+      let a = times_append k forward back in
+      let b = times_append k (numbers_of p.forward.list) p.forward.drawn in
+      let c = times_append k (numbers_of p.back.list) p.back.drawn in
+      omega arith) in
       let x = h.forward.few in
       let y = h.back.few in
       let a = length-append forward back in

@@ -160,11 +160,13 @@ module _ {E X F B : Type 0} (fe : F → List (ℕ × E)) (fs : F → X) (be : B 
         record {
           half = b;
           is = refl;
-          seen = subst (λ (l : List (ℕ × E)). StartsWith l v.back.seen) (sym k.back) sits.seen;
-          rising = subst (λ (l : List (ℕ × E)). IsRising (numbers_of l)) (sym k.back) (subst IsRising (ap (λ (ns : List ℕ). numbers_of p.back.list ++ ns) (h.back.idle refl) ∙ append-nil (numbers_of p.back.list)) h.back.rising);
-          same = fits.told_forward has.forward ∙ ap Some (sym (k.back_shared refl));
-          alike = subst (λ (l : List (ℕ × E) × List (ℕ × E)). Agree l.0 l.1) (λ i. (sym front.2 i, sym k.back i)) h.agree;
-          whole = λ all none. subst (λ (l : List (ℕ × E) × List (ℕ × E)). IsWhole v.numbers l.0 l.1) (λ i. (sym front.2 i, sym k.back i)) (whole_of ahead false p views id v h at all (sym front.3 ∙ none) (h.back.idle refl));
+          found = record {
+            seen = subst (λ (l : List (ℕ × E)). StartsWith l v.back.seen) (sym k.back) sits.seen;
+            rising = subst (λ (l : List (ℕ × E)). IsRising (numbers_of l)) (sym k.back) (subst IsRising (ap (λ (ns : List ℕ). numbers_of p.back.list ++ ns) (h.back.idle refl) ∙ append-nil (numbers_of p.back.list)) h.back.rising);
+            same = fits.told_forward has.forward ∙ ap Some (sym (k.back_shared refl));
+            alike = subst (λ (l : List (ℕ × E) × List (ℕ × E)). Agree l.0 l.1) (λ i. (sym front.2 i, sym k.back i)) h.agree;
+            whole = λ all none. subst (λ (l : List (ℕ × E) × List (ℕ × E)). IsWhole v.numbers l.0 l.1) (λ i. (sym front.2 i, sym k.back i)) (whole_of ahead false p views id v h at all (sym front.3 ∙ none) (h.back.idle refl));
+          };
         },
       )
 
@@ -196,3 +198,31 @@ module _ {E X F B : Type 0} (fe : F → List (ℕ × E)) (fs : F → X) (be : B 
 
   pub tries_back : (slots id : ℕ) (m : Me (Slot F B) (View E X)) → 0 < m.0.parts → HoldsForward m.0 → Allows (Kept fe fs be bs) slots id m 1 (λ n. either (eqb n 0) 1 n) (TriesBack be bs any m)
   tries_back slots id m alive has = allows fe fs be bs slots id m 1 (λ n. either (eqb n 0) 1 n) (TriesBack be bs any m) (tries_once id m alive has)
+
+-- the slot that a seat took
+module _ {E X F B : Type 0} where
+  -- a slot that was taken stands first among those that are out
+  out_of : (v : View E X) (k : ℕ) (x : Slot F B) (c : List (ℕ × Slot F B)) (n : Me (Slot F B) (View E X)) → n ≡ (v, (k, x) ∷ c) → n.1 ≡ (k, x) ∷ rest n.1
+  out_of v k x c n is =
+      let slots : n.1 ≡ (k, x) ∷ c = ap (λ (m : Me (Slot F B) (View E X)). m.1) is in
+      slots ∙ ap (λ (d : List (ℕ × Slot F B)). (k, x) ∷ rest d) (sym slots)
+
+  pub out_forward : (fe : F → List (ℕ × E)) (fs : F → X) (m n : Me (Slot F B) (View E X)) (found : ℕ) → found ≡ 0 → TakesForward fe fs any m found n → (x : Slot F B) × (n.1 ≡ (0, x) ∷ rest n.1)
+  out_forward fe fs m n found free told =
+      let t : TookForward fe fs m n = subst (λ (k : ℕ). TakesForward fe fs any m k n) free told in
+      (Some (Forward t.half), out_of (took_forward m.0 (fe t.half) (fs t.half)) 0 (Some (Forward t.half)) m.1 n t.is)
+
+  pub out_back : (be : B → List (ℕ × E)) (bs : B → X) (m n : Me (Slot F B) (View E X)) (found : ℕ) → found ≡ 0 → TakesBack be bs any m found n → (x : Slot F B) × (n.1 ≡ (1, x) ∷ rest n.1)
+  out_back be bs m n found free told =
+      let t : TookBack be bs m n = subst (λ (k : ℕ). TakesBack be bs any m k n) free told in
+      (Some (Back t.half), out_of (took_back m.0 (be t.half) (bs t.half)) 1 (Some (Back t.half)) m.1 n t.is)
+
+  pub out_back_too : (be : B → List (ℕ × E)) (bs : B → X) (m n : Me (Slot F B) (View E X)) (found : ℕ) → found ≡ 0 → TakesBackToo be bs any m found n → (x : Slot F B) × (n.1 ≡ (1, x) ∷ rest n.1)
+  out_back_too be bs m n found free told =
+      let t : TookBackToo be bs m n = subst (λ (k : ℕ). TakesBackToo be bs any m k n) free told in
+      (Some (Back t.half), out_of (took_back_too m.0 (be t.half)) 1 (Some (Back t.half)) m.1 n t.is)
+
+  pub out_tried : (be : B → List (ℕ × E)) (bs : B → X) (m n : Me (Slot F B) (View E X)) (found : ℕ) → found ≡ 0 → TriesBack be bs any m found n → (x : Slot F B) × (n.1 ≡ (1, x) ∷ rest n.1)
+  out_tried be bs m n found free told =
+      let t : TookBackToo be bs m n = subst (λ (k : ℕ). TriesBack be bs any m k n) free told in
+      (Some (Back t.half), out_of (took_back_too m.0 (be t.half)) 1 (Some (Back t.half)) m.1 n t.is)

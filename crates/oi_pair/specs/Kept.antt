@@ -9,7 +9,7 @@ use Rattle.oi_pair.specs.declared.half.Half.TheVariants.{Forward, Back}
 use Rattle.oi_pair.specs.declared.view.Side.{Side}
 use Rattle.oi_pair.specs.declared.view.View.{View}
 use Rattle.oi_pair.specs.Lists.{Has, StartsWith, numbers_of, times, IsRising, Agree}
-use Rattle.oi_pair.specs.Views.{met, took_forward, took_back, took_back_too, kept_out, drew, left_back, left_forward, IsNext, IsMet, IsWhole}
+use Rattle.oi_pair.specs.Views.{met, took_forward, took_back, took_back_too, kept_out, drew, left_back, left_forward, IsNext, IsMet, IsBeside}
 
 -- the two slots: the forward half in the first and the back half in the second, or nothing while a seat has the half in hand
 abbrev pub Slot : Type 0 → Type 0 → Type 0
@@ -134,11 +134,7 @@ module _ {E X F B : Type 0} (be : B → List (ℕ × E)) (bs : B → X) where
   pub record TookBackToo (m n : Me (Slot F B) (View E X)) : Type 0 where
     pub half : B
     pub is : n ≡ (took_back_too m.0 (be half), (1, Some (Back half)) ∷ m.1)
-    pub seen : StartsWith (be half) m.0.back.seen
-    pub rising : IsRising (numbers_of (be half))
-    pub same : m.0.told ≡ Some (bs half)
-    pub alike : Agree m.0.forward.kept (be half)
-    pub whole : m.0.parts ≡ 65536 → m.0.forward.drawn ≡ [] → IsWhole m.0.numbers m.0.forward.kept (be half)
+    pub found : IsBeside m.0 (be half) (bs half)
 
   -- a try for the back half beside the forward half, and one that counts where it failed
   abbrev pub TakesBackToo : Step (Slot F B) → Me (Slot F B) (View E X) → ℕ → Me (Slot F B) (View E X) → Type 0

@@ -1,3 +1,4 @@
 pub mod Lists
 pub mod Views
 pub mod Kept
+pub mod Seats

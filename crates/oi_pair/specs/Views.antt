@@ -3,7 +3,7 @@ use Rattle.std.specs.Prelude.{◌≡◌, ℕ, ◌+◌, ◌-◌, ◌<◌, ◌≤�
 use Rattle.oi_pair.specs.declared.view.Side.{Side}
 use Rattle.oi_pair.specs.declared.view.View.{View}
 use Rattle.oi_base.specs.Counts.{bit}
-use Rattle.oi_pair.specs.Lists.{Has, StartsWith, longer, numbers_of, times, IsPart, Agree}
+use Rattle.oi_pair.specs.Lists.{Has, StartsWith, longer, numbers_of, times, IsPart, IsRising, Agree}
 
 -- the numbers that were drawn since a half was taken, after one more, where the seat holds the half
 abbrev pub drawn_after : Bool → List ℕ → ℕ → List ℕ
@@ -147,3 +147,12 @@ pub record IsWhole {E : Type 0} (numbers : List ℕ) (forward back : List (ℕ �
   pub in_forward : (k : ℕ) → Has (numbers_of forward) k → Has numbers k
   pub in_back : (k : ℕ) → Has (numbers_of back) k → Has numbers k
   pub alike : Agree forward back
+
+-- What the back half is to a seat that takes it beside the forward half. It begins with what the seat saw, its shared part is the one that the seat was told or made last, and an entry that has one number in both halves is the same in both.
+-- For a seat with all parts that drew nothing since, the two halves are the whole
+pub record IsBeside {E X : Type 0} (v : View E X) (xs : List (ℕ × E)) (shared : X) : Type 0 where
+  pub seen : StartsWith xs v.back.seen
+  pub rising : IsRising (numbers_of xs)
+  pub same : v.told ≡ Some shared
+  pub alike : Agree v.forward.kept xs
+  pub whole : v.parts ≡ 65536 → v.forward.drawn ≡ [] → IsWhole v.numbers v.forward.kept xs

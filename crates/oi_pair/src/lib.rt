@@ -2,5 +2,11 @@
 #![tactic(auto)]
 
 mod half;
+mod pair;
 mod rule;
+mod seat;
+mod steps;
 mod view;
+
+pub use pair::Pair;
+pub use seat::PairSeat;
