@@ -188,18 +188,20 @@ module _ {E X F B : Type 0} (fe : F → List (ℕ × E)) (fs : F → X) (be : B 
         },
       )
 
-  -- What a pair is at its end, for a seat that has all parts and holds nothing. Both halves are at home in the slots
+  -- what a pair is at its end, for a seat that has all parts and holds nothing
+  pub record Ends (v : View E X) (f : F) (b : B) : Type 0 where
+    pub shared : fs f ≡ bs b
+    pub whole : IsWhole v.numbers (fe f) (be b)
+    pub seen : StartsWith (fe f) v.forward.seen × StartsWith (be b) v.back.seen
+    pub rising : IsRising (numbers_of (fe f)) × IsRising (numbers_of (be b))
+
+  -- both halves are at home in the slots
   pub record Closing (v : View E X) (slots : List (Slot F B)) : Type 0 where
     pub ahead : F
     pub behind : B
     pub slot_0 : get_elem? slots 0 ≡ some (Some (Forward ahead))
     pub slot_1 : get_elem? slots 1 ≡ some (Some (Back behind))
-    pub shared : fs ahead ≡ bs behind
-    pub whole : IsWhole v.numbers (fe ahead) (be behind)
-    pub seen_forward : StartsWith (fe ahead) v.forward.seen
-    pub seen_back : StartsWith (be behind) v.back.seen
-    pub rising_forward : IsRising (numbers_of (fe ahead))
-    pub rising_back : IsRising (numbers_of (be behind))
+    pub ends : Ends v ahead behind
 
   closes_at : (id : ℕ) (v : View E X) → v.parts ≡ 65536 → HoldsNone v → (ahead behind : Bool) (p : Joint E X) (f : F) (b : B) (views : List (View E X)) → Keep fe fs be bs ahead behind p f b → Sound ahead behind p views → get_elem? views id ≡ some v
       → (slots : List (Slot F B)) → ((k : ℕ) (y : Slot F B) → get_elem? (at_home ahead (Some (Forward f)) ∷ at_home behind (Some (Back b)) ∷ []) k ≡ some (some y) → get_elem? slots k ≡ some y)
@@ -215,16 +217,19 @@ module _ {E X F B : Type 0} (fe : F → List (ℕ × E)) (fs : F → X) (be : B 
         behind = b;
         slot_0 = homes 0 (Some (Forward f)) refl;
         slot_1 = homes 1 (Some (Back b)) refl;
-        shared = k.forward_shared refl ∙ sym (k.back_shared refl);
-        whole = subst (λ (l : List (ℕ × E) × List (ℕ × E)). IsWhole v.numbers l.0 l.1) (λ i. (sym k.forward i, sym k.back i)) (whole_of false false p views id v h at all f_free b_free);
-        seen_forward = subst (λ (l : List (ℕ × E)). StartsWith l v.forward.seen) (sym k.forward) f_sits.seen;
-        seen_back = subst (λ (l : List (ℕ × E)). StartsWith l v.back.seen) (sym k.back) b_sits.seen;
-        rising_forward = subst (λ (l : List (ℕ × E)). IsRising (numbers_of l)) (sym k.forward) (subst IsRising (ap (λ (ns : List ℕ). numbers_of p.forward.list ++ ns) f_free ∙ append-nil (numbers_of p.forward.list)) h.forward.rising);
-        rising_back = subst (λ (l : List (ℕ × E)). IsRising (numbers_of l)) (sym k.back) (subst IsRising (ap (λ (ns : List ℕ). numbers_of p.back.list ++ ns) b_free ∙ append-nil (numbers_of p.back.list)) h.back.rising);
+        ends = record {
+          shared = k.forward_shared refl ∙ sym (k.back_shared refl);
+          whole = subst (λ (l : List (ℕ × E) × List (ℕ × E)). IsWhole v.numbers l.0 l.1) (λ i. (sym k.forward i, sym k.back i)) (whole_of false false p views id v h at all f_free b_free);
+          seen = (subst (λ (l : List (ℕ × E)). StartsWith l v.forward.seen) (sym k.forward) f_sits.seen, subst (λ (l : List (ℕ × E)). StartsWith l v.back.seen) (sym k.back) b_sits.seen);
+          rising = (
+            subst (λ (l : List (ℕ × E)). IsRising (numbers_of l)) (sym k.forward) (subst IsRising (ap (λ (ns : List ℕ). numbers_of p.forward.list ++ ns) f_free ∙ append-nil (numbers_of p.forward.list)) h.forward.rising),
+            subst (λ (l : List (ℕ × E)). IsRising (numbers_of l)) (sym k.back) (subst IsRising (ap (λ (ns : List ℕ). numbers_of p.back.list ++ ns) b_free ∙ append-nil (numbers_of p.back.list)) h.back.rising),
+          );
+        };
       }
 
-  pub closes : (id : ℕ) (v : View E X) (words : List ℕ) (slots : List (Slot F B)) → v.parts ≡ 65536 → HoldsNone v → Final (Seen (Kept fe fs be bs) id v) words slots → Closing v slots
-  closes id v words slots all rests end =
+  closes_seen : (id : ℕ) (v : View E X) (words : List ℕ) (slots : List (Slot F B)) → v.parts ≡ 65536 → HoldsNone v → Final (Seen (Kept fe fs be bs) id v) words slots → Closing v slots
+  closes_seen id v words slots all rests end =
       let s = end.0 in
       let h = end.1.0 in
       let at = end.1.1 in
@@ -235,3 +240,26 @@ module _ {E X F B : Type 0} (fe : F → List (ℕ × E)) (fs : F → X) (be : B 
       (λ k y e. end.4 k y (ap (λ (t : State (Slot F B) (View E X)). get_elem? t.homes k) h.5 ∙ e))
       (none_held (λ (x : View E X). x.forward) h.0 h.2 h.2.forward s.views id v sound.forward at rests.forward (λ j u apart e. (idle j u apart e).0))
       (none_held (λ (x : View E X). x.back) h.1 h.2 h.2.back s.views id v sound.back at rests.back (λ j u apart e. (idle j u apart e).1))
+
+  same_forward : (x y : F) → ◌≡◌ {A = Slot F B} (Some (Forward x)) (Some (Forward y)) → x ≡ y
+  same_forward x y e = cc
+
+  same_back : (x y : B) → ◌≡◌ {A = Slot F B} (Some (Back x)) (Some (Back y)) → x ≡ y
+  same_back x y e = cc
+
+  -- the halves that stand in the slots of a table that was closed
+  pub closes : (id : ℕ) (v k : View E X) (words : List ℕ) (slots later : List (Slot F B)) → v ≡ k → k.parts ≡ 65536 → HoldsNone k → Final (Seen (Kept fe fs be bs) id v) words slots
+      → (x y : Slot F B) → get_elem? slots 0 ≡ some x → later ≡ slots → get_elem? later 1 ≡ some y
+      → (f : F) × (b : B) × (x ≡ Some (Forward f)) × (y ≡ Some (Back b)) × Ends k f b
+  closes id v k words slots later is all rests end x y slot_0 same slot_1 =
+      let c = closes_seen id k words slots all rests (subst (λ (u : View E X). Final (Seen (Kept fe fs be bs) id u) words slots) is end) in (
+        c.ahead,
+        c.behind,
+        some-injective x (Some (Forward c.ahead)) (sym slot_0 ∙ c.slot_0),
+        some-injective y (Some (Back c.behind)) (sym slot_1 ∙ (ap (λ (l : List (Slot F B)). get_elem? l 1) same ∙ c.slot_1)),
+        c.ends,
+      )
+
+  pub ends_are : (k : View E X) (x y : Slot F B) (f : F) (b : B) → ((f : F) × (b : B) × (x ≡ Some (Forward f)) × (y ≡ Some (Back b)) × Ends k f b) → x ≡ Some (Forward f) → y ≡ Some (Back b) → Ends k f b
+  ends_are k x y f b c one two =
+      subst (λ (h : F × B). Ends k h.0 h.1) (λ i. (same_forward c.0 f (sym c.2 ∙ one) i, same_back c.1 b (sym c.3 ∙ two) i)) c.4
