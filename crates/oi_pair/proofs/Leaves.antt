@@ -62,17 +62,13 @@ module _ {E X : Type 0} where
       (λ old. omega arith)
 
 module _ {E X F B : Type 0} (fe : F → List (ℕ × E)) (fs : F → X) (be : B → List (ℕ × E)) (bs : B → X) where
-  -- what the back half is left with
-  added_is : (d : Side E) (xs more : List (ℕ × E)) → xs ≡ d.kept ++ more → added d xs ≡ more
-  added_is d xs more is = ap (drop (length d.kept)) is ∙ drop-append_seam d.kept more
-
   -- the leave of the back half
   leaves_back_at : (id : ℕ) (v : View E X) (c : List (ℕ × Slot F B)) (b' : B) → 0 < v.parts → v.back.holds ≡ true → MayLeaveBack v (be b') (bs b')
       → (ahead behind : Bool) (p : Joint E X) (f : F) (b : B) (views : List (View E X)) → Keep fe fs be bs ahead behind p f b → Sound ahead behind p views → get_elem? views id ≡ some v
       → Steps fe fs be bs id (v, (1, Some (Back b')) ∷ c) 1 (λ _. 0) (LeavesBack fe be bs any (v, (1, Some (Back b')) ∷ c)) (table_of ahead behind p.counter f b views)
   leaves_back_at id v c b' alive has may ahead false p f b views k h at = absurd (off ((h.back.each id v at).holder has).1)
   leaves_back_at id v c b' alive has may ahead true p f b views k h at =
-      let more = may.grown.more in
+      let more = added v.back (be b') in
       let w = left_back v (be b') (Some (bs b')) in
       let q = record p { back = record (p.back) { list = p.back.list ++ more; drawn = [] }; shared = bs b' } in
       let fits = h.each id v at in
@@ -81,7 +77,6 @@ module _ {E X F B : Type 0} (fe : F → List (ℕ × E)) (fs : F → X) (be : B 
       let kept : v.back.kept ≡ p.back.list = (rear.holder has).2 in
       let drawn : v.back.drawn ≡ p.back.drawn = (rear.holder has).3 in
       let list : be b' ≡ p.back.list ++ more = may.grown.behind ∙ ap (λ (l : List (ℕ × E)). l ++ more) kept in
-      let grown : added v.back (be b') ≡ more = added_is v.back (be b') more may.grown.behind in
       let own = own_below ahead true p views id v h at in
       let in_drawn : (k : ℕ) → Has (numbers_of more) k → 0 < times k v.back.drawn = λ k x. (let a = has_times (numbers_of more) k x in let e = part_times (numbers_of more) v.back.drawn k may.grown.numbers in omega arith) in
       let in_own : (k : ℕ) → Has (numbers_of more) k → 0 < times k v.numbers = λ k x. (let a = in_drawn k x in let e = rear.carried k in omega arith) in
@@ -92,11 +87,11 @@ module _ {E X F B : Type 0} (fe : F → List (ℕ × E)) (fs : F → X) (be : B 
         both = λ _ no. absurd (off no);
         left_there = λ x k there. ⊎_elim
             (λ (a : Has (numbers_of v.left) k). number_left p.back.list more k (fits.left_there x k a))
-            (λ (a : Has (numbers_of (added v.back (be b'))) k). number_right p.back.list more k (subst (λ (l : List (ℕ × E)). Has (numbers_of l) k) grown a))
-            (number_of v.left (added v.back (be b')) k there);
+            (λ (a : Has (numbers_of more) k). number_right p.back.list more k a)
+            (number_of v.left more k there);
         left_all = λ x k e there new. ⊎_elim
-            (λ (a : Has p.back.list (k, e)). has_left v.left (added v.back (be b')) (k, e) (fits.left_all x k e a new))
-            (λ (a : Has more (k, e)). has_right v.left (added v.back (be b')) (k, e) (subst (λ (l : List (ℕ × E)). Has l (k, e)) (sym grown) a))
+            (λ (a : Has p.back.list (k, e)). has_left v.left more (k, e) (fits.left_all x k e a new))
+            (λ (a : Has more (k, e)). has_right v.left more (k, e) a)
             (has_append p.back.list more (k, e) there);
         new_forward = λ no. absurd (off no);
         idle = λ none. absurd (omega arith);
@@ -139,7 +134,7 @@ module _ {E X F B : Type 0} (fe : F → List (ℕ × E)) (fs : F → X) (be : B 
                 })
                 mine;
             placed = λ k below. placed_back_at v.forward.holds p v more k refl (λ x. ap (times k) (front.holder x).3) (ap (times k) drawn) (λ x. fits.both x has k)
-                (λ x there. subst (λ (l : List (ℕ × E)). Has (numbers_of l) k) list (may.placed x k there)) (h.placed k below);
+                (λ x there. number_right p.back.list more k (may.placed x k there)) (h.placed k below);
             once = once_keep p.counter views id v w at refl h.once;
             agree = λ k x y one two. ⊎_elim
                 (λ (a : Has p.back.list (k, y)). h.agree k x y one a)
@@ -164,16 +159,16 @@ module _ {E X F B : Type 0} (fe : F → List (ℕ × E)) (fs : F → X) (be : B 
       → Steps fe fs be bs id (v, (0, Some (Forward f')) ∷ c) 0 (λ _. 0) (LeavesForward fe be any (v, (0, Some (Forward f')) ∷ c)) (table_of ahead behind p.counter f b views)
   leaves_forward_at id v c f' alive has may false behind p f b views k h at = absurd (off ((h.forward.each id v at).holder has.forward).1)
   leaves_forward_at id v c f' alive has may true behind p f b views k h at =
-      let more = may.more in
+      let more = added v.forward (fe f') in
       let w = left_forward v (fe f') in
       let q = record p { forward = record (p.forward) { list = p.forward.list ++ more; drawn = [] } } in
       let fits = h.each id v at in
       let front = h.forward.each id v at in
       let rear = h.back.each id v at in
       let holder = front.holder has.forward in
-      let list : fe f' ≡ p.forward.list ++ more = may.behind ∙ ap (λ (l : List (ℕ × E)). l ++ more) holder.2 in
+      let list : fe f' ≡ p.forward.list ++ more = may.grown.behind ∙ ap (λ (l : List (ℕ × E)). l ++ more) holder.2 in
       let own = own_below true behind p views id v h at in
-      let in_drawn : (k : ℕ) → Has (numbers_of more) k → 0 < times k v.forward.drawn = λ k x. (let a = has_times (numbers_of more) k x in let e = part_times (numbers_of more) v.forward.drawn k may.numbers in omega arith) in
+      let in_drawn : (k : ℕ) → Has (numbers_of more) k → 0 < times k v.forward.drawn = λ k x. (let a = has_times (numbers_of more) k x in let e = part_times (numbers_of more) v.forward.drawn k may.grown.numbers in omega arith) in
       let in_own : (k : ℕ) → Has (numbers_of more) k → 0 < times k v.numbers = λ k x. (let a = in_drawn k x in let e = front.carried k in omega arith) in
       let mine : Fits q w = record {
         told_forward = λ no. absurd (off no);
@@ -196,7 +191,7 @@ module _ {E X F B : Type 0} (fe : F → List (ℕ × E)) (fs : F → X) (be : B 
           refl,
           record { forward = list; back = k.back; forward_shared = λ _. same_some (fs f') p.shared (sym may.same ∙ fits.told_forward has.forward); back_shared = k.back_shared },
           record {
-            forward = tied_leaves (λ (x : View E X). x.forward) p.counter p.forward more views id v w h.forward at has.forward may.numbers (λ k x. own k (in_own k x)) (ap outside list);
+            forward = tied_leaves (λ (x : View E X). x.forward) p.counter p.forward more views id v w h.forward at has.forward may.grown.numbers (λ k x. own k (in_own k x)) (ap outside list);
             back = tied_keep (λ (x : View E X). x.back) behind p.counter p.back views id v w h.back at refl (λ k. omega arith);
             each = fits_set q views id w
                 (λ j u apart e.

@@ -1,5 +1,6 @@
 pub mod Counter
 pub mod Leaves
+pub mod Ledgers
 pub mod Lists
 pub mod Places
 pub mod Seats

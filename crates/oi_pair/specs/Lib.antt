@@ -3,3 +3,4 @@ pub mod Lists
 pub mod Views
 pub mod Kept
 pub mod Seats
+pub mod Ledgers

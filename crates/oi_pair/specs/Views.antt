@@ -35,11 +35,10 @@ module _ {E : Type 0} where
   abbrev pub added : Side E → List (ℕ × E) → List (ℕ × E)
   added d xs = drop (length d.kept) xs
 
-  -- A half that is left keeps what it kept when it was taken, followed by entries whose numbers were drawn since, in their order
+  -- a half that is left keeps what it kept when it was taken, followed by entries whose numbers were drawn since, in their order
   pub record IsGrown (d : Side E) (xs : List (ℕ × E)) : Type 0 where
-    pub more : List (ℕ × E)
-    pub behind : xs ≡ d.kept ++ more
-    pub numbers : IsPart (numbers_of more) d.drawn
+    pub behind : xs ≡ d.kept ++ added d xs
+    pub numbers : IsPart (numbers_of (added d xs)) d.drawn
 
 module _ {E X : Type 0} where
   -- of a new pair
@@ -127,16 +126,14 @@ module _ {E X : Type 0} where
   -- What a seat that leaves the back half meets. Where it does not hold the forward half, each number that it drew stands there, and the shared part is as it was taken
   pub record MayLeaveBack (v : View E X) (xs : List (ℕ × E)) (shared : X) : Type 0 where
     pub grown : IsGrown v.back xs
-    pub placed : v.forward.holds ≡ false → (k : ℕ) → Has v.back.drawn k → Has (numbers_of xs) k
+    pub placed : v.forward.holds ≡ false → (k : ℕ) → Has v.back.drawn k → Has (numbers_of (added v.back xs)) k
     pub same : v.forward.holds ≡ false → v.told ≡ Some shared
 
-  -- What a seat that leaves the forward half meets. Each number that it drew stands there or in what it added to the back half since, where an entry of one number is the same; and the shared part is the one that it was told or made last
+  -- What a seat that leaves the forward half meets. Each number that it drew stands there or in what it added to the back half since, where an entry of one number is the same; and the shared part is the one that it was told, or with which it left the back half last
   pub record MayLeaveForward (v : View E X) (xs : List (ℕ × E)) (shared : X) : Type 0 where
-    pub more : List (ℕ × E)
-    pub behind : xs ≡ v.forward.kept ++ more
-    pub numbers : IsPart (numbers_of more) v.forward.drawn
-    pub placed : (k : ℕ) → Has v.forward.drawn k → Has (numbers_of more) k ⊎ Has (numbers_of v.left) k
-    pub alike : Agree more v.left
+    pub grown : IsGrown v.forward xs
+    pub placed : (k : ℕ) → Has v.forward.drawn k → Has (numbers_of (added v.forward xs)) k ⊎ Has (numbers_of v.left) k
+    pub alike : Agree (added v.forward xs) v.left
     pub same : v.told ≡ Some shared
 
 -- The seat carries each number below the counter, once, and no other. The numbers of the two lists are these, and an entry that has one number in both is the same in both

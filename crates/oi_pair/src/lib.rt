@@ -2,6 +2,7 @@
 #![tactic(auto)]
 
 mod half;
+mod ledger;
 mod pair;
 mod rule;
 mod seat;
