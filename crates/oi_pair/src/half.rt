@@ -4,6 +4,7 @@ ghost use Rattle.oi_pair.specs.Halves.{HasForward, HasBack, HasBoth};
 use std::alloc::{AllocFailed, Global};
 
 /// What a slot of the pair's table holds.
+#[derive(Drop)]
 pub enum Half<F, B> {
     Forward(F),
     Back(B),

@@ -11,7 +11,7 @@ use std::collections::LinkedList;
 use std::sync::Wait;
 
 /// The entries that a half may keep.
-const MOST: usize = 2_000_000;
+const MOST: usize = 1_000_000;
 
 /// An entry of one half, or a joint one of both.
 #[derive(Clone, Copy, Debug, PartialEq, Eq)]
@@ -42,7 +42,7 @@ impl Ledger {
     // Makes room for one entry more, and says whether there is some.
     fn make_room(&mut self) -> bool
         ensures same { self.new.entries.items ≡ self.old.entries.items }
-        ensures room { result ≡ true → (vec_len self.new.entries < vec_capacity self.new.entries) × (vec_len self.new.entries < 2000000) }
+        ensures room { result ≡ true → (vec_len self.new.entries < vec_capacity self.new.entries) × (vec_len self.new.entries < 1000000) }
     {
         self.entries.len() < MOST && self.entries.reserve(1).is_ok()
     }

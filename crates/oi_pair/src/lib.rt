@@ -7,6 +7,8 @@ mod pair;
 mod rule;
 mod seat;
 mod steps;
+#[cfg(test)]
+mod tests;
 mod view;
 
 pub use pair::Pair;

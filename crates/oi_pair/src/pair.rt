@@ -16,6 +16,7 @@ use std::thread;
 
 /// Two values, each behind a lock of its own, and one counter that numbers the entries of both. Calls take a seat of
 /// the pair.
+#[derive(Drop)]
 pub struct Pair<F: Keeps, B: Keeps<Entry = F::Entry, Shared = F::Shared>> {
     table: PairTable<F::Entry, F::Shared, F, B>,
 }
