@@ -1,5 +1,5 @@
 -- Halves that are plain lists of entries.
-use Rattle.std.proofs.Common.{◌≡◌, ◌⊎◌, ◌<◌, ℕ, List, [], ◌∷◌, ◌++◌, length, drop, Bool, true, false, Some, refl, sym, ap, ◌∙◌, subst, ⊎_elim, inl, inr, arith}
+use Rattle.std.proofs.Common.{◌≡◌, ◌⊎◌, ◌<◌, ℕ, List, [], ◌∷◌, ◌++◌, length, drop, Bool, true, false, Option, Some, refl, sym, ap, ◌∙◌, subst, ⊎_elim, inl, inr, arith}
 use Rattle.std.proofs.lemmas.List.{append-nil}
 use Rattle.std.proofs.Math.Seq.{drop-append_seam}
 use Rattle.oi_pair.specs.declared.ledger.Mark.{Mark}
@@ -84,9 +84,20 @@ forward_leaves v xs ys is =
       same = ap Some joint;
     }
 
-pub alone_leaves : (v : View Mark (List (ℕ × Mark))) (ys : List (ℕ × Mark)) → IsOwn v ys → MayLeaveBack v ys (joint_of ys)
-alone_leaves v ys is = record {
-  grown = grown_of v.back ys is.back is.drawn;
+own_shared : (told : Option (List (ℕ × Mark))) (d : Side Mark) (xs : List (ℕ × Mark)) → IsOwn told d xs → told ≡ Some (joint_of xs)
+own_shared told d xs is = is.shared ∙ ap Some (sym (ap joint_of is.behind ∙ joint_append d.kept (added d xs) ∙ ap (λ (l : List (ℕ × Mark)). joint_of d.kept ++ l) is.alone ∙ append-nil (joint_of d.kept)))
+
+pub back_alone_leaves : (v : View Mark (List (ℕ × Mark))) (ys : List (ℕ × Mark)) → IsOwn v.told v.back ys → MayLeaveBack v ys (joint_of ys)
+back_alone_leaves v ys is = record {
+  grown = grown_of v.back ys is.behind is.drawn;
   placed = λ no k has. subst (λ (ns : List ℕ). Has ns k) is.drawn has;
-  same = λ no. is.shared ∙ ap Some (sym (ap joint_of is.back ∙ joint_append v.back.kept (added v.back ys) ∙ ap (λ (l : List (ℕ × Mark)). joint_of v.back.kept ++ l) is.alone ∙ append-nil (joint_of v.back.kept)));
+  same = λ no. own_shared v.told v.back ys is;
+}
+
+pub forward_alone_leaves : (v : View Mark (List (ℕ × Mark))) (xs : List (ℕ × Mark)) → IsOwn v.told v.forward xs → v.left ≡ [] → MayLeaveForward v xs (joint_of xs)
+forward_alone_leaves v xs is none = record {
+  grown = grown_of v.forward xs is.behind is.drawn;
+  placed = λ k has. inl (subst (λ (ns : List ℕ). Has ns k) is.drawn has);
+  alike = subst (Agree (added v.forward xs)) (sym none) (λ k a b one two. absurd two);
+  same = own_shared v.told v.forward xs is;
 }

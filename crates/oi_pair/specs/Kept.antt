@@ -8,6 +8,7 @@ use Rattle.oi_pair.specs.declared.half.Half.{Half}
 use Rattle.oi_pair.specs.declared.half.Half.TheVariants.{Forward, Back}
 use Rattle.oi_pair.specs.declared.view.Side.{Side}
 use Rattle.oi_pair.specs.declared.view.View.{View}
+use Rattle.oi_pair.specs.Limits.{all_parts, most_entries}
 use Rattle.oi_pair.specs.Lists.{Has, StartsWith, numbers_of, times, IsRising, Agree}
 use Rattle.oi_pair.specs.Views.{met, took_forward, took_back, took_back_too, kept_out, drew, left_back, left_forward, IsNext, IsMet, IsBeside}
 
@@ -58,7 +59,7 @@ module _ {E : Type 0} where
     pub idle : held ≡ false → q.drawn ≡ []
     pub rising : IsRising (numbers_of q.list ++ q.drawn)
     pub below : (k : ℕ) → Has (numbers_of q.list) k → k < counter
-    pub few : length q.list + length q.drawn ≤ 2000000
+    pub few : length q.list + length q.drawn ≤ most_entries
 
 -- what there is of a pair: its two halves, the counter, and the shared part that each half has which no seat holds
 pub record Joint (E X : Type 0) : Type 0 where
@@ -90,7 +91,7 @@ module _ {E X : Type 0} where
     pub placed : (k : ℕ) → k < p.counter → IsPlaced p k
     pub once : (k : ℕ) → total (λ (v : View E X). times k v.numbers) views ≡ bit (nat_lt k p.counter)
     pub agree : Agree p.forward.list p.back.list
-    pub parts : total (λ (v : View E X). v.parts) views ≡ 65536
+    pub parts : total (λ (v : View E X). v.parts) views ≡ all_parts
 
 -- the entries of a half, and the shared part, by what tells them
 module _ {E X F B : Type 0} (fe : F → List (ℕ × E)) (fs : F → X) (be : B → List (ℕ × E)) (bs : B → X) where

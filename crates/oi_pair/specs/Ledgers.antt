@@ -1,6 +1,7 @@
 -- Halves that are plain lists of entries, which share their joint ones.
-use Rattle.std.specs.Prelude.{◌≡◌, ℕ, Bool, true, false, List, [], ◌∷◌, ◌++◌, Some}
+use Rattle.std.specs.Prelude.{◌≡◌, ℕ, Bool, true, false, List, [], ◌∷◌, ◌++◌, Option, Some}
 use Rattle.oi_pair.specs.declared.ledger.Mark.{Mark}
+use Rattle.oi_pair.specs.declared.view.Side.{Side}
 use Rattle.oi_pair.specs.declared.view.View.{View}
 use Rattle.oi_pair.specs.Lists.{numbers_of, IsRising}
 use Rattle.oi_pair.specs.Views.{HoldsNone, added, left_back, left_forward}
@@ -42,9 +43,9 @@ pub record IsJoint (v : View Mark (List (ℕ × Mark))) (xs ys : List (ℕ × Ma
 abbrev pub left_both : View Mark (List (ℕ × Mark)) → List (ℕ × Mark) → List (ℕ × Mark) → View Mark (List (ℕ × Mark))
 left_both v xs ys = left_forward (left_back v ys (Some (joint_of ys))) xs
 
--- entries that are not joint were added to the back half, and their numbers are those that were drawn
-pub record IsOwn (v : View Mark (List (ℕ × Mark))) (ys : List (ℕ × Mark)) : Type 0 where
-  pub back : ys ≡ v.back.kept ++ added v.back ys
-  pub drawn : v.back.drawn ≡ numbers_of (added v.back ys)
-  pub alone : joint_of (added v.back ys) ≡ []
-  pub shared : v.told ≡ Some (joint_of v.back.kept)
+-- entries that are not joint were added to a half, their numbers are those that were drawn, and the shared part that was told is as it was
+pub record IsOwn (told : Option (List (ℕ × Mark))) (d : Side Mark) (xs : List (ℕ × Mark)) : Type 0 where
+  pub behind : xs ≡ d.kept ++ added d xs
+  pub drawn : d.drawn ≡ numbers_of (added d xs)
+  pub alone : joint_of (added d xs) ≡ []
+  pub shared : told ≡ Some (joint_of d.kept)

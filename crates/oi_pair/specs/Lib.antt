@@ -1,6 +1,7 @@
 pub mod Halves
-pub mod Lists
-pub mod Views
 pub mod Kept
-pub mod Seats
 pub mod Ledgers
+pub mod Limits
+pub mod Lists
+pub mod Seats
+pub mod Views

@@ -3,6 +3,7 @@ use Rattle.std.specs.Prelude.{◌≡◌, ℕ, ◌<◌, ◌≤◌, Bool, true, fa
 use Rattle.atomic_table.specs.Seated.{TableId}
 use Rattle.atomic_table.specs.Table.{Me, rest}
 use Rattle.oi_pair.specs.declared.view.View.{View}
+use Rattle.oi_pair.specs.Limits.{all_parts}
 use Rattle.oi_pair.specs.Views.{HoldsNone, HoldsForward}
 use Rattle.oi_pair.specs.Kept.{Slot}
 
@@ -32,5 +33,5 @@ module _ {F B : Type 0} where
 -- a seat between two calls
 pub record IsReady {E X F B : Type 0} (m : Me (Slot F B) (View E X)) : Type 0 where
   pub alive : 0 < m.0.parts
-  pub few : m.0.parts ≤ 65536
+  pub few : m.0.parts ≤ all_parts
   pub slots : m.1 ≡ slots_out m.0.forward.holds m.0.back.holds

@@ -3,6 +3,7 @@ use Rattle.std.specs.Prelude.{◌≡◌, ℕ, ◌+◌, ◌-◌, ◌<◌, ◌≤�
 use Rattle.oi_pair.specs.declared.view.Side.{Side}
 use Rattle.oi_pair.specs.declared.view.View.{View}
 use Rattle.oi_base.specs.Counts.{bit}
+use Rattle.oi_pair.specs.Limits.{all_parts, most_entries}
 use Rattle.oi_pair.specs.Lists.{Has, StartsWith, longer, numbers_of, times, IsPart, IsRising, Agree}
 
 -- the numbers that were drawn since a half was taken, after one more, where the seat holds the half
@@ -43,7 +44,7 @@ module _ {E : Type 0} where
 module _ {E X : Type 0} where
   -- of a new pair
   abbrev pub opened : View E X
-  opened = record { forward = outside []; back = outside []; told = None; left = []; numbers = []; parts = 65536; busy = 0 }
+  opened = record { forward = outside []; back = outside []; told = None; left = []; numbers = []; parts = all_parts; busy = 0 }
 
   -- the split: what stays
   abbrev pub parted : View E X → View E X
@@ -106,8 +107,8 @@ module _ {E X : Type 0} where
   -- the seat holds a half, and each half that it holds has room for one entry more
   pub record MayDraw (v : View E X) : Type 0 where
     pub holds : (v.forward.holds || v.back.holds) ≡ true
-    pub forward : v.forward.holds ≡ true → length v.forward.kept + length v.forward.drawn < 2000000
-    pub back : v.back.holds ≡ true → length v.back.kept + length v.back.drawn < 2000000
+    pub forward : v.forward.holds ≡ true → length v.forward.kept + length v.forward.drawn < most_entries
+    pub back : v.back.holds ≡ true → length v.back.kept + length v.back.drawn < most_entries
 
   -- The number is above all that the seat carries and above those in the halves that it holds. Where it holds both, each smaller number stands in one of them or was drawn since it took the first of them
   pub record IsNext (v : View E X) (n : ℕ) : Type 0 where
@@ -121,7 +122,7 @@ module _ {E X : Type 0} where
     pub forward : StartsWith (longer v.forward.seen v.forward.kept) v.forward.seen × StartsWith (longer v.forward.seen v.forward.kept) v.forward.kept
     pub back : StartsWith (longer v.back.seen v.back.kept) v.back.seen × StartsWith (longer v.back.seen v.back.kept) v.back.kept
     pub once : (k : ℕ) → times k v.numbers ≤ 1
-    pub parts : v.parts ≤ 65536
+    pub parts : v.parts ≤ all_parts
 
   -- What a seat that leaves the back half meets. Where it does not hold the forward half, each number that it drew stands there, and the shared part is as it was taken
   pub record MayLeaveBack (v : View E X) (xs : List (ℕ × E)) (shared : X) : Type 0 where
@@ -152,4 +153,4 @@ pub record IsBeside {E X : Type 0} (v : View E X) (xs : List (ℕ × E)) (shared
   pub rising : IsRising (numbers_of xs)
   pub same : v.told ≡ Some shared
   pub alike : Agree v.forward.kept xs
-  pub whole : v.parts ≡ 65536 → v.forward.drawn ≡ [] → IsWhole v.numbers v.forward.kept xs
+  pub whole : v.parts ≡ all_parts → v.forward.drawn ≡ [] → IsWhole v.numbers v.forward.kept xs

@@ -1,7 +1,7 @@
 //! Halves that are plain lists of entries. The crate tries its locks with them.
 ghost use Rattle.std.specs.Prelude.{◌≡◌, ◌<◌, true, false, [], ◌∷◌, ◌++◌, IsTrue, IfSome, IfNone, vec_len, vec_capacity};
 ghost use Rattle.oi_pair.specs.Lists.{Has};
-ghost use Rattle.oi_pair.specs.Views.{HoldsNone, left_back};
+ghost use Rattle.oi_pair.specs.Views.{HoldsNone, HoldsForward, left_back, left_forward};
 ghost use Rattle.oi_pair.specs.Seats.{seated};
 ghost use Rattle.oi_pair.specs.Ledgers.{joint_of, IsSameSeat, Carries, IsJoint, IsOwn, left_both};
 
@@ -103,11 +103,56 @@ pub fn enter_both<R: Wait>(
     Some(number)
 }
 
+// Leaves the forward half, which the seat held alone.
+fn leave_forward_alone(
+    pair: &Pair<Ledger, Ledger>,
+    seat: &mut PairSeat<Ledger, Ledger>,
+    forward: Ledger,
+)
+    requires pair { seat.old.pair ≡ pair.now }
+    requires holds { HoldsForward seat.old.knows }
+    requires own { IsOwn seat.old.knows.told seat.old.knows.forward forward.entries.items × (seat.old.knows.left ≡ []) }
+    ensures { seat.new ≡ seated seat.old.pair (left_forward seat.old.knows forward.entries.items) }
+{
+    pair.leave_forward(seat, forward);
+}
+
+/// Makes an entry of the forward half, and answers its number, or None where there is no room.
+#[tactic(auto, using(crate::proofs::Ledgers::has_last, crate::proofs::Ledgers::drop_last))]
+pub fn enter_forward<R: Wait>(
+    rt: &R,
+    pair: &Pair<Ledger, Ledger>,
+    seat: &mut PairSeat<Ledger, Ledger>,
+    value: u32,
+) -> Option<u64>
+    requires pair { seat.old.pair ≡ pair.now }
+    requires rests { HoldsNone seat.old.knows }
+    ensures same { IsSameSeat seat.old seat.new }
+    ensures entered { IfSome result (λ n. Carries seat.old seat.new n × Has seat.new.knows.forward.seen (n, record { joint = false; value = value })) }
+    ensures none { IfNone result (seat.new.knows.numbers ≡ seat.old.knows.numbers) }
+{
+    let mut forward = pair.take_forward(rt, seat);
+    if !forward.make_room() {
+        pair.leave_forward(seat, forward);
+        return None;
+    }
+    let number = pair.number(seat);
+    forward.enter(
+        number,
+        Mark {
+            joint: false,
+            value,
+        },
+    );
+    leave_forward_alone(pair, seat, forward);
+    Some(number)
+}
+
 // Leaves the back half, which the seat holds alone.
-fn leave_alone(pair: &Pair<Ledger, Ledger>, seat: &mut PairSeat<Ledger, Ledger>, back: Ledger)
+fn leave_back_alone(pair: &Pair<Ledger, Ledger>, seat: &mut PairSeat<Ledger, Ledger>, back: Ledger)
     requires pair { seat.old.pair ≡ pair.now }
     requires holds { (seat.old.knows.forward.holds ≡ false) × (seat.old.knows.back.holds ≡ true) }
-    requires own { IsOwn seat.old.knows back.entries.items }
+    requires own { IsOwn seat.old.knows.told seat.old.knows.back back.entries.items }
     ensures { seat.new ≡ seated seat.old.pair (left_back seat.old.knows back.entries.items (Some (joint_of back.entries.items))) }
 {
     pair.leave_back(seat, back);
@@ -140,6 +185,6 @@ pub fn enter_back<R: Wait>(
             value,
         },
     );
-    leave_alone(pair, seat, back);
+    leave_back_alone(pair, seat, back);
     Some(number)
 }

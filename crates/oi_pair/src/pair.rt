@@ -1,4 +1,5 @@
 ghost use Rattle.std.specs.Prelude.{◌≡◌, ℕ, ◌<◌, ◌≤◌, ◌+◌, true, false, [], ◌∷◌, Some, IfOk, IfErr, IfSome, MatchOption};
+ghost use Rattle.oi_pair.specs.Limits.{all_parts};
 ghost use Rattle.oi_pair.specs.Lists.{StartsWith, numbers_of, IsRising};
 ghost use Rattle.oi_pair.specs.Views.{opened, took_forward, took_back, took_back_too, kept_out, drew, left_back, left_forward, parted, branch, joined, met, HoldsNone, HoldsForward, MayDraw, IsNext, MayLeaveBack, MayLeaveForward, IsMet, IsBeside, IsWhole};
 ghost use Rattle.oi_pair.specs.Seats.{seated};
@@ -13,6 +14,9 @@ use std::alloc::Global;
 use std::marker::Model;
 use std::sync::Wait;
 use std::thread;
+
+/// The parts that the seats of a pair have together.
+const ALL_PARTS: u32 = 65_536;
 
 /// Two values, each behind a lock of its own, and one counter that numbers the entries of both. Calls take a seat of
 /// the pair.
@@ -56,7 +60,7 @@ impl<F: Keeps, B: Keeps<Entry = F::Entry, Shared = F::Shared>> Pair<F, B> {
                 Pair { table },
                 PairSeat {
                     seat,
-                    parts: 65_536,
+                    parts: ALL_PARTS,
                 },
             )),
             Err(refused) => {
@@ -67,7 +71,7 @@ impl<F: Keeps, B: Keeps<Entry = F::Entry, Shared = F::Shared>> Pair<F, B> {
         }
     }
 
-    /// Takes the forward half, once no other seat holds it.
+    /// Takes the forward half, once no other seat holds it. It yields to other threads between two tries.
     pub fn take_forward<R: Wait>(&self, rt: &R, seat: &mut PairSeat<F, B>) -> F
         requires pair { seat.old.pair ≡ self.now }
         requires rests { HoldsNone seat.old.knows }
@@ -189,7 +193,7 @@ impl<F: Keeps, B: Keeps<Entry = F::Entry, Shared = F::Shared>> Pair<F, B> {
     /// Takes a pair apart, by a seat that has all its parts.
     pub fn close(self, seat: PairSeat<F, B>) -> (F, B)
         requires pair { seat.pair ≡ self }
-        requires parts { seat.knows.parts ≡ 65536 }
+        requires parts { seat.knows.parts ≡ all_parts }
         requires rests { HoldsNone seat.knows }
         ensures shared { F.shared result.0 ≡ B.shared result.1 }
         ensures whole { IsWhole seat.knows.numbers (F.entries result.0) (B.entries result.1) }

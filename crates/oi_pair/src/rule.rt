@@ -5,7 +5,7 @@ use atomic_table::{Join, Play, Seat, Shared, Split, Table, TableRule};
 use oi_base::Keeps;
 use std::alloc::Global;
 
-pub type Desk<E, X, F, B> = Seat<Option<Half<F, B>>, View<E, X>>;
+pub type TableSeat<E, X, F, B> = Seat<Option<Half<F, B>>, View<E, X>>;
 
 pub type PairTable<E, X, F, B> = Table<Option<Half<F, B>>, View<E, X>, (), PairRule, Global>;
 

@@ -1,6 +1,6 @@
 ghost use Rattle.std.specs.Prelude.{◌≡◌};
 
-use crate::rule::Desk;
+use crate::rule::TableSeat;
 use oi_base::Keeps;
 use std::marker::Model;
 
@@ -8,7 +8,7 @@ use std::marker::Model;
 /// of it, and takes no memory.
 #[derive(Drop)]
 pub struct PairSeat<F: Keeps, B: Keeps<Entry = F::Entry, Shared = F::Shared>> {
-    pub(crate) seat: Desk<F::Entry, F::Shared, F, B>,
+    pub(crate) seat: TableSeat<F::Entry, F::Shared, F, B>,
     pub(crate) parts: u32,
 }
 

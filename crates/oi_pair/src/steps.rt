@@ -7,7 +7,7 @@ ghost use Rattle.oi_pair.specs.Seats.{IsPairTable};
 
 use crate::half::Half;
 use crate::rule::{
-    Desk, Draws, LeavesBack, LeavesForward, Meets, PairShared, Parts, TakesBack, TakesBackToo,
+    Draws, LeavesBack, LeavesForward, Meets, PairShared, Parts, TableSeat, TakesBack, TakesBackToo,
     TakesForward, TriesBack,
 };
 use oi_base::Keeps;
@@ -24,7 +24,7 @@ const COUNTER: usize = 2;
 // Tries once to take the forward half.
 pub fn take_forward<E, X, F: Keeps<Entry = E, Shared = X>, B: Keeps<Entry = E, Shared = X>>(
     table: &PairShared<E, X, F, B>,
-    seat: &mut Desk<E, X, F, B>,
+    seat: &mut TableSeat<E, X, F, B>,
 ) -> Option<F>
     requires table { (seat.old.table_id ≡ table.now.table_id) × IsPairTable seat.old.table_id }
     requires seat { (0 < seat.old.me.0.parts) × (seat.old.me.1 ≡ []) × HoldsNone seat.old.me.0 }
@@ -45,7 +45,7 @@ pub fn take_forward<E, X, F: Keeps<Entry = E, Shared = X>, B: Keeps<Entry = E, S
 // Tries once to take the back half alone.
 pub fn take_back<E, X, F: Keeps<Entry = E, Shared = X>, B: Keeps<Entry = E, Shared = X>>(
     table: &PairShared<E, X, F, B>,
-    seat: &mut Desk<E, X, F, B>,
+    seat: &mut TableSeat<E, X, F, B>,
 ) -> Option<B>
     requires table { (seat.old.table_id ≡ table.now.table_id) × IsPairTable seat.old.table_id }
     requires seat { (0 < seat.old.me.0.parts) × (seat.old.me.1 ≡ []) × HoldsNone seat.old.me.0 }
@@ -66,7 +66,7 @@ pub fn take_back<E, X, F: Keeps<Entry = E, Shared = X>, B: Keeps<Entry = E, Shar
 // Tries once to take the back half beside the forward half, for a seat that waits.
 pub fn take_back_too<E, X, F: Keeps<Entry = E, Shared = X>, B: Keeps<Entry = E, Shared = X>>(
     table: &PairShared<E, X, F, B>,
-    seat: &mut Desk<E, X, F, B>,
+    seat: &mut TableSeat<E, X, F, B>,
 ) -> Option<B>
     requires table { (seat.old.table_id ≡ table.now.table_id) × IsPairTable seat.old.table_id }
     requires seat { (0 < seat.old.me.0.parts) × (seat.old.me.1 ≡ (0, None) ∷ []) × HoldsForward seat.old.me.0 }
@@ -87,7 +87,7 @@ pub fn take_back_too<E, X, F: Keeps<Entry = E, Shared = X>, B: Keeps<Entry = E, 
 // The same for a seat that does not wait. It counts where another seat held the half.
 pub fn try_back<E, X, F: Keeps<Entry = E, Shared = X>, B: Keeps<Entry = E, Shared = X>>(
     table: &PairShared<E, X, F, B>,
-    seat: &mut Desk<E, X, F, B>,
+    seat: &mut TableSeat<E, X, F, B>,
 ) -> Option<B>
     requires table { (seat.old.table_id ≡ table.now.table_id) × IsPairTable seat.old.table_id }
     requires seat { (0 < seat.old.me.0.parts) × (seat.old.me.1 ≡ (0, None) ∷ []) × HoldsForward seat.old.me.0 }
@@ -108,7 +108,7 @@ pub fn try_back<E, X, F: Keeps<Entry = E, Shared = X>, B: Keeps<Entry = E, Share
 // Draws the next number.
 pub fn draw<E, X, F: Keeps<Entry = E, Shared = X>, B: Keeps<Entry = E, Shared = X>>(
     table: &PairShared<E, X, F, B>,
-    seat: &mut Desk<E, X, F, B>,
+    seat: &mut TableSeat<E, X, F, B>,
 ) -> u64
     requires table { (seat.old.table_id ≡ table.now.table_id) × IsPairTable seat.old.table_id }
     requires seat { (0 < seat.old.me.0.parts) × MayDraw seat.old.me.0 }
@@ -122,7 +122,7 @@ pub fn draw<E, X, F: Keeps<Entry = E, Shared = X>, B: Keeps<Entry = E, Shared = 
 // Puts the back half back.
 pub fn leave_back<E, X, F: Keeps<Entry = E, Shared = X>, B: Keeps<Entry = E, Shared = X>>(
     table: &PairShared<E, X, F, B>,
-    seat: &mut Desk<E, X, F, B>,
+    seat: &mut TableSeat<E, X, F, B>,
     half: B,
 )
     requires table { (seat.old.table_id ≡ table.now.table_id) × IsPairTable seat.old.table_id }
@@ -139,7 +139,7 @@ pub fn leave_back<E, X, F: Keeps<Entry = E, Shared = X>, B: Keeps<Entry = E, Sha
 // Puts the forward half back.
 pub fn leave_forward<E, X, F: Keeps<Entry = E, Shared = X>, B: Keeps<Entry = E, Shared = X>>(
     table: &PairShared<E, X, F, B>,
-    seat: &mut Desk<E, X, F, B>,
+    seat: &mut TableSeat<E, X, F, B>,
     half: F,
 )
     requires table { (seat.old.table_id ≡ table.now.table_id) × IsPairTable seat.old.table_id }
@@ -156,8 +156,8 @@ pub fn leave_forward<E, X, F: Keeps<Entry = E, Shared = X>, B: Keeps<Entry = E, 
 // Gives one part to a new seat.
 pub fn part<E, X, F: Keeps<Entry = E, Shared = X>, B: Keeps<Entry = E, Shared = X>>(
     table: &PairShared<E, X, F, B>,
-    seat: &mut Desk<E, X, F, B>,
-) -> Desk<E, X, F, B>
+    seat: &mut TableSeat<E, X, F, B>,
+) -> TableSeat<E, X, F, B>
     requires table { (seat.old.table_id ≡ table.now.table_id) × IsPairTable seat.old.table_id }
     requires seat { (2 ≤ seat.old.me.0.parts) × (seat.old.me.1 ≡ []) × HoldsNone seat.old.me.0 }
     ensures stays { (seat.new.table_id ≡ seat.old.table_id) × (seat.new.me ≡ (parted seat.old.me.0, [])) }
@@ -169,8 +169,8 @@ pub fn part<E, X, F: Keeps<Entry = E, Shared = X>, B: Keeps<Entry = E, Shared = 
 // Takes another seat in, and looks at what the two know of each other.
 pub fn join<E, X, F: Keeps<Entry = E, Shared = X>, B: Keeps<Entry = E, Shared = X>>(
     table: &PairShared<E, X, F, B>,
-    seat: &mut Desk<E, X, F, B>,
-    other: Desk<E, X, F, B>,
+    seat: &mut TableSeat<E, X, F, B>,
+    other: TableSeat<E, X, F, B>,
 )
     requires table { (seat.old.table_id ≡ table.now.table_id) × IsPairTable seat.old.table_id }
     requires other_table { other.table_id ≡ table.now.table_id }

@@ -3,7 +3,7 @@ ghost use Rattle.oi_pair.specs.Views.{opened, HoldsNone, IsWhole};
 ghost use Rattle.oi_pair.specs.Seats.{seated};
 ghost use Rattle.oi_pair.specs.Ledgers.{IsSameSeat};
 
-use crate::ledger::{Ledger, enter_back, enter_both};
+use crate::ledger::{Ledger, enter_back, enter_both, enter_forward};
 use crate::{Pair, PairSeat};
 use oi_base::NoMemory;
 use std::alloc::Global;
@@ -31,16 +31,20 @@ fn new_ledgers(alloc: Global) -> Result<(Ledgers, Clerk), NoMemory>
     }
 }
 
-// Makes 500 joint entries and 500 of the back half, and says whether there was room for all.
-fn enter_all<R: Wait>(rt: &R, pair: &Ledgers, mut seat: Clerk) -> (Clerk, bool)
+// Makes 500 joint entries and 500 of one half, and says whether there was room for all.
+fn enter_all<R: Wait>(rt: &R, pair: &Ledgers, mut seat: Clerk, ahead: bool) -> (Clerk, bool)
     requires { (seat.pair ≡ pair.now) × HoldsNone seat.knows }
     ensures { IsSameSeat seat result.0 }
 {
     let mut all = true;
     for value in 0..500 {
-        let joint = enter_both(rt, pair, &mut seat, value).is_some();
-        let own = enter_back(rt, pair, &mut seat, value).is_some();
-        all = all && joint && own;
+        let joint = enter_both(rt, pair, &mut seat, value);
+        let own = if ahead {
+            enter_forward(rt, pair, &mut seat, value)
+        } else {
+            enter_back(rt, pair, &mut seat, value)
+        };
+        all = all && joint.is_some() && own.is_some();
     }
     (seat, all)
 }
@@ -59,11 +63,11 @@ fn entered_by_two<R: Threads + Wait + Sync>(
         || -> (Clerk, bool)
             requires { (first.pair ≡ pair) × HoldsNone first.knows }
             ensures { IsSameSeat first result.0 }
-        { enter_all(rt, &pair, first) },
+        { enter_all(rt, &pair, first, true) },
         || -> (Clerk, bool)
             requires { (second.pair ≡ pair) × HoldsNone second.knows }
             ensures { IsSameSeat second result.0 }
-        { enter_all(rt, &pair, second) },
+        { enter_all(rt, &pair, second, false) },
     );
     pair.join(&mut first, second);
     let halves = pair.close(first);
@@ -74,21 +78,32 @@ fn entered_by_two<R: Threads + Wait + Sync>(
     }
 }
 
+// The numbers of both halves in order, those of joint entries once.
+fn numbers_of_both(alloc: Global, forward: &Ledger, back: &Ledger) -> Result<Vec<u64>, NoMemory> {
+    let mut numbers = Vec::new(alloc);
+    for entry in &forward.entries {
+        numbers.push(entry.0)?;
+    }
+    for entry in &back.entries {
+        if !entry.1.joint {
+            numbers.push(entry.0)?;
+        }
+    }
+    numbers.sort()?;
+    Ok(numbers)
+}
+
 #[test]
 fn joint_entries_of_two_threads(rt: HostRuntime) -> Result<(), Fail> {
     let Some((forward, back)) = entered_by_two(&rt, rt.alloc())? else {
         panic!(rt; "there was no room")
     };
-    assert_eq!(rt; forward.entries.len(), 1000);
-    assert_eq!(rt; back.entries.len(), 2000);
-    assert!(rt;
-        back.entries
-            .iter()
-            .zip(0..)
-            .all(|(entry, number)| entry.0 == number)
-    );
+    assert_eq!(rt; forward.entries.len(), 1500);
+    assert_eq!(rt; back.entries.len(), 1500);
+    let numbers = numbers_of_both(rt.alloc(), &forward, &back)?;
+    assert!(rt; numbers.into_iter().eq(0..2000));
     let joint = back.entries.iter().filter(|entry| entry.1.joint);
-    assert!(rt; joint.eq(forward.entries.iter()));
+    assert!(rt; joint.eq(forward.entries.iter().filter(|entry| entry.1.joint)));
     Ok(())
 }
 
