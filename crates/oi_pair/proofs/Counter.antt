@@ -1,27 +1,19 @@
 -- The draw keeps the rule, and tells what it says.
-use Rattle.std.proofs.Common.{◌≡◌, ◌≢◌, ◌⊎◌, ◌≤◌, ◌<◌, ◌+◌, ◌-◌, ◌%◌, ◌^◌, eqb, nat_lt, ◌||◌, ℕ, zero, suc, List, [], ◌∷◌, ◌++◌, length, drop, set, Option, Some, None, Bool, true, false, refl, sym, ap, ◌∙◌, subst, ⊎_elim, inl, inr, arith, append_assoc, length-append}
-use Rattle.std.proofs.lemmas.List.{append-nil}
-use Rattle.std.proofs.lemmas.Bool.Decides.{nat_tests}
-use Rattle.std.proofs.Math.Seq.{drop-append_seam}
-use Rattle.std.specs.Prelude.{slice_index}
-use mathlib.Core.Option.{none, some, some-ne-none, some-injective}
+use Rattle.std.proofs.Common.{◌≡◌, ◌⊎◌, ◌<◌, ◌+◌, ◌%◌, ◌^◌, ℕ, suc, List, [], ◌∷◌, length, set, Some, Bool, true, refl, ap, subst, ⊎_elim, arith}
+use mathlib.Core.Option.{some}
 use mathlib.Core.Logic.{dite}
-use native.Mathlib.Decide.{ℕ_discrete, dec_lt}
-use prog.Atomic.{either}
+use native.Mathlib.Decide.{ℕ_discrete}
 use lib.ListN.{get_elem?}
-use Rattle.atomic_table.specs.Table.{State, Me, Step, step, Act, keeps, takes, gives, stepped, Valid, carried_after, opening, rest, Allows, Splits, Joins, Final, Seen}
-use Rattle.atomic_table.proofs.Lists.{at_set, set_here, set_else, at_longer}
+use Rattle.atomic_table.specs.Table.{State, Me, keeps, Allows}
 use Rattle.oi_base.specs.Counts.{bit}
-use Rattle.oi_pair.specs.declared.half.Half.{Half}
 use Rattle.oi_pair.specs.declared.half.Half.TheVariants.{Forward, Back}
-use Rattle.oi_pair.specs.declared.view.Side.{Side}
 use Rattle.oi_pair.specs.declared.view.View.{View}
-use Rattle.oi_pair.specs.Lists.{Has, StartsWith, longer, numbers_of, times, IsPart, IsRising, Agree}
-use Rattle.oi_pair.specs.Views.{outside, inside, drawn_after, drew_beside, added, IsGrown, opened, parted, branch, joined, met, nobody, took_forward, took_back, took_back_too, kept_out, drew, left_back, left_forward, HoldsNone, HoldsForward, MayDraw, IsNext, MayLeaveBack, MayLeaveForward, IsWhole, IsMet}
-use Rattle.oi_pair.specs.Kept.{Slot, at_home, table_of, total, Place, Sits, Tied, Joint, Fits, IsPlaced, Sound, Keep, Kept, TookForward, TakesForward, TookBack, TakesBack, TookBackToo, TakesBackToo, TriesBack, Draws, LeavesForward, LeavesBack, Meets}
-use Rattle.oi_pair.proofs.Lists.{off, bit_small, bit_below, bit_past, bit_same, bit_apart, bit_more, has_append, has_left, has_right, in_range, at_end, total_set, total_end, total_one, total_two, total_alone, others_none, times_append, times_end, has_times, times_has, has_of, one_of_three, part_times, numbers_append, numbers_length, has_number, number_left, number_right, number_of, pigeons}
-use Rattle.oi_pair.proofs.Places.{one_holder, tied_set, tied_keep, tied_count, tied_takes, tied_leaves, tied_draws, tied_splits, tied_joins, tied_meets}
-use Rattle.oi_pair.proofs.Sounds.{fits_set, once_keep, parts_keep, own_below, carried_once, whole_of, counter_small, drawn_more, drawn_new, drawn_old, drawn_both, either_true, is_false, same_some, any, Steps, allows, fails}
+use Rattle.oi_pair.specs.Lists.{Has, numbers_of, times}
+use Rattle.oi_pair.specs.Views.{drawn_after, drew, MayDraw}
+use Rattle.oi_pair.specs.Kept.{Slot, at_home, table_of, Sits, Joint, Fits, IsPlaced, Sound, Keep, Kept, Draws}
+use Rattle.oi_pair.proofs.Lists.{bit_more, total_set, times_end, has_times, one_of_three, has_number}
+use Rattle.oi_pair.proofs.Places.{tied_draws}
+use Rattle.oi_pair.proofs.Sounds.{fits_set, parts_keep, own_below, counter_small, drawn_more, drawn_new, drawn_old, drawn_both, either_true, any, Steps, allows}
 
 module _ {E X F B : Type 0} (fe : F → List (ℕ × E)) (fs : F → X) (be : B → List (ℕ × E)) (bs : B → X) where
   -- with both halves held, a number that is placed stands in one of them, or was drawn since

@@ -1,14 +1,13 @@
 -- Lists of entries and of numbers, and totals over views.
-use Rattle.std.proofs.Common.{◌≡◌, ◌≢◌, ◌⊎◌, ◌≤◌, ◌<◌, ◌+◌, eqb, nat_lt, cond, ℕ, zero, suc, List, [], ◌∷◌, ◌++◌, length, drop, set, Bool, true, false, true≢false, refl, sym, ap, ◌∙◌, subst, ⊎_elim, inl, inr, arith, append_assoc, length-append}
+use Rattle.std.proofs.Common.{◌≡◌, ◌≢◌, ◌⊎◌, ◌≤◌, ◌<◌, ◌+◌, eqb, nat_lt, cond, ℕ, zero, suc, List, [], ◌∷◌, ◌++◌, length, set, Bool, true, false, true≢false, refl, sym, ap, ◌∙◌, subst, ⊎_elim, inl, inr, arith, append_assoc}
 use Rattle.std.proofs.lemmas.List.{append-nil}
 use Rattle.std.proofs.lemmas.Bool.Decides.{nat_tests}
 use mathlib.Core.Option.{some, some-ne-none, some-injective}
 use mathlib.Core.Logic.{dite}
 use native.Mathlib.Decide.{ℕ_discrete}
 use lib.ListN.{get_elem?}
-use Rattle.atomic_table.proofs.Lists.{at_set}
 use Rattle.oi_base.specs.Counts.{bit}
-use Rattle.oi_pair.specs.Lists.{Has, StartsWith, longer, numbers_of, times, IsPart, AllAbove, IsRising, Agree}
+use Rattle.oi_pair.specs.Lists.{Has, StartsWith, longer, numbers_of, times, IsPart, AllAbove, IsRising}
 use Rattle.oi_pair.specs.Kept.{total}
 
 pub off : false ≡ true → ⊥

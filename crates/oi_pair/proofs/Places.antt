@@ -1,5 +1,5 @@
 -- The rule of one half, whichever it is: how each kind of step keeps it.
-use Rattle.std.proofs.Common.{◌≡◌, ◌≢◌, ◌⊎◌, ◌≤◌, ◌<◌, ◌+◌, eqb, ℕ, suc, List, [], ◌∷◌, ◌++◌, length, set, Bool, true, false, refl, sym, ap, ◌∙◌, subst, ⊎_elim, inl, inr, arith, append_assoc, length-append}
+use Rattle.std.proofs.Common.{◌≡◌, ◌≢◌, ◌≤◌, ◌<◌, ◌+◌, ℕ, suc, List, [], ◌∷◌, ◌++◌, length, set, Bool, true, false, refl, sym, ap, ◌∙◌, subst, ⊎_elim, arith, append_assoc, length-append}
 use Rattle.std.proofs.lemmas.List.{append-nil}
 use mathlib.Core.Option.{some, some-injective}
 use mathlib.Core.Logic.{dite}
@@ -8,7 +8,7 @@ use lib.ListN.{get_elem?}
 use Rattle.atomic_table.proofs.Lists.{at_set, set_here, set_else, at_longer}
 use Rattle.oi_pair.specs.declared.view.Side.{Side}
 use Rattle.oi_pair.specs.declared.view.View.{View}
-use Rattle.oi_pair.specs.Lists.{Has, StartsWith, longer, numbers_of, times, IsPart, IsRising}
+use Rattle.oi_pair.specs.Lists.{Has, numbers_of, times, IsPart, IsRising}
 use Rattle.oi_pair.specs.Views.{outside, inside, drawn_after, drew_beside, beside, met_side}
 use Rattle.oi_pair.specs.Kept.{Place, Sits, IsHolder, Tied}
 use Rattle.oi_pair.proofs.Lists.{off, in_range, at_end, starts_self, starts_nil, starts_more, longer_starts, times_append, has_append, has_times, part_length, rising_part, rising_end, numbers_append, numbers_length, number_of}

@@ -1,10 +1,9 @@
 -- How contracts see a seat, and what its steps ask of it.
 use Rattle.std.specs.Prelude.{◌≡◌, ℕ, ◌<◌, ◌≤◌, Bool, true, false, List, [], ◌∷◌, None}
 use Rattle.atomic_table.specs.Seated.{TableId}
-use Rattle.atomic_table.specs.Table.{Me, rest}
+use Rattle.atomic_table.specs.Table.{Me}
 use Rattle.oi_pair.specs.declared.view.View.{View}
 use Rattle.oi_pair.specs.Limits.{all_parts}
-use Rattle.oi_pair.specs.Views.{HoldsNone, HoldsForward}
 use Rattle.oi_pair.specs.Kept.{Slot}
 
 -- a seat: its pair, and what it knows

@@ -1,4 +1,3 @@
-use Rattle.std.proofs.Common.{subst, ap}
 use Rattle.oi_pair.proofs.Ledgers.{back_leaves, forward_leaves}
 use Rattle.oi_pair.proofs.ledger.leave_both.Goals as goal
 
