@@ -75,10 +75,14 @@ abbrev pub map_from : ℕ → (ℕ → Task → Task) → List Task → List Tas
 map_from k f [] = []
 map_from k f (t ∷ tasks) = f k t ∷ map_from (k + 1) f tasks
 
+-- the reset of a logical unit
+abbrev pub reset_by : ℕ → ℕ → ℕ → Task → Task
+reset_by allowed at lun t = if t.command.lun == lun then hit_by allowed at ResetDone t else t
+
 -- the request of the error handler was carried out
 abbrev pub carried_out : ℕ → ℕ → Handler → List Task → List Task
 carried_out allowed at (Aborting id tag since) tasks = changed id (hit_by allowed at AbortDone) tasks
-carried_out allowed at (ResettingLun lun tag since) tasks = map (λ t. if t.command.lun == lun then hit_by allowed at ResetDone t else t) tasks
+carried_out allowed at (ResettingLun lun tag since) tasks = map (reset_by allowed at lun) tasks
 carried_out allowed at (ResettingTarget tag since) tasks = map (hit_by allowed at ResetDone) tasks
 carried_out allowed at h tasks = tasks
 
@@ -97,13 +101,17 @@ tasks_heard allowed at handler busy head payload tasks = tasks
 abbrev pub submitted_in : Phase → ℕ → Command → Task
 submitted_in p at c = if is_fail_fast p then failed at FailsFast (fresh_task c) else fresh_task c
 
+-- the loss of the connection, for the submission with this id
+abbrev pub lost_by : ℕ → ℕ → Handler → Bool → Bool → ℕ → Task → Task
+lost_by allowed at handler at_once counted k t = hit_by allowed at (ByLoss (aim_of handler k t) at_once counted) t
+
 -- by the meanings before the entry with the number `at`
 abbrev pub tasks_step : SessionConfig → ℕ → Bool → Phase → Handler → List Allocated → Event → List Task → List Task
 tasks_step C at accepted p handler busy (Submit id request) tasks = tasks ++ submitted_in p at (command_of request) ∷ []
 tasks_step C at accepted p handler busy (Issue id generation tag cmdsn) tasks = changed id (issued generation tag) tasks
 tasks_step C at accepted p handler busy (PduIn generation pdu) tasks = if accepted then tasks_heard C.tries at handler busy pdu.head pdu.payload tasks else tasks
 tasks_step C at accepted p handler busy (Lost generation cause) tasks =
-    map_from 0 (λ k t. hit_by C.tries at (ByLoss (aim_of handler k t) (is_at_once C.replacement) C.count_disrupted) t) tasks
+    map_from 0 (lost_by C.tries at handler (is_at_once C.replacement) C.count_disrupted) tasks
 tasks_step C at accepted p handler busy (Tick reading) tasks = if is_overdue C.replacement reading p then map (hit_by C.tries at ReplacementPast) tasks else tasks
 tasks_step C at accepted p handler busy (Abort id) tasks = changed id (hit_by C.tries at Aborted) tasks
 tasks_step C at accepted p handler busy (Deliver count) tasks = map told_task tasks

@@ -24,7 +24,7 @@ pub fn holder_of(busy: &[Allocated], tag: Tag) -> Option<u64>
     None
 }
 
-fn held<'a>(busy: &[Allocated], tasks: &'a [Task], tag: Tag) -> Option<&'a Task>
+pub fn held<'a>(busy: &[Allocated], tasks: &'a [Task], tag: Tag) -> Option<&'a Task>
     ensures { option_copied result ≡ held tag.0 busy.now tasks.now }
 {
     let id = holder_of(busy, tag)?;

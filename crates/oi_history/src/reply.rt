@@ -46,7 +46,7 @@ pub fn is_done(fate: &Fate) -> bool
     }
 }
 
-fn tries_of(fate: &Fate) -> u8
+pub fn tries_of(fate: &Fate) -> u8
     ensures { result ≡ tries_of fate.now }
 {
     match fate {
@@ -67,7 +67,7 @@ fn residual(over: bool, under: bool, count: u32) -> Residual
     }
 }
 
-fn data_reply(alloc: Global, h: DataIn) -> ReplyData
+pub fn data_reply(alloc: Global, h: DataIn) -> ReplyData
     ensures { result ≡ data_reply h }
 {
     ReplyData {
@@ -78,7 +78,7 @@ fn data_reply(alloc: Global, h: DataIn) -> ReplyData
     }
 }
 
-fn scsi_reply(alloc: Global, h: ScsiResponse, payload: &[u8]) -> Result<ReplyData, NoMemory>
+pub fn scsi_reply(alloc: Global, h: ScsiResponse, payload: &[u8]) -> Result<ReplyData, NoMemory>
     ensures { IfOk result (λ r. r ≡ scsi_reply h payload.now) }
 {
     let sense = Blob::from_slice(alloc, sense_of(payload))?;
@@ -103,7 +103,7 @@ pub fn issue(task: &mut Task, generation: u64, tag: Tag)
     };
 }
 
-fn settle(task: &mut Task, alloc: Global, at: u64, reply: ReplyData, next: Next)
+pub fn settle(task: &mut Task, alloc: Global, at: u64, reply: ReplyData, next: Next)
     ensures { task.new ≡ settled at reply task.old next }
 {
     match next {
@@ -128,7 +128,7 @@ fn settle(task: &mut Task, alloc: Global, at: u64, reply: ReplyData, next: Next)
 }
 
 // Another state, without the data of the try that is over.
-fn start_again(task: &mut Task, alloc: Global, fate: Fate)
+pub fn start_again(task: &mut Task, alloc: Global, fate: Fate)
     ensures { task.new ≡ record task.old { fate = fate; got = []; pieces = 0 } }
 {
     task.fate = fate;
@@ -153,7 +153,7 @@ fn reply_to(task: &mut Task, alloc: Global, allowed: u8, at: u64, reply: ReplyDa
     settle(task, alloc, at, reply, next);
 }
 
-fn take_piece(task: &mut Task, payload: &[u8]) -> Result<(), NoMemory>
+pub fn take_piece(task: &mut Task, payload: &[u8]) -> Result<(), NoMemory>
     ensures ok { OnOk result (task.new ≡ with_piece payload.now task.old) }
     ensures err { OnErr result (task.new ≡ task.old) }
 {

@@ -1,0 +1,6 @@
+use Rattle.std.proofs.Common.{◌≡◌, ◌++◌}
+use Rattle.oi_history.specs.Queues.{queued_as}
+use Rattle.oi_history.proofs.queueing.queue_pieces.Given as goal
+
+abbrev pub invariant-loop-piece : goal.invariant-loop-piece
+invariant-loop-piece l = l.queue.items ≡ l.initial.queue.items ++ queued_as l.id l.tag l.ttt l.yielded
