@@ -16,6 +16,7 @@ pub mod Recovering
 pub mod Connected
 pub mod Queues
 pub mod Locks
+pub mod Ending
 pub mod Meanings
 pub mod Owing
 pub mod Losses

@@ -7,6 +7,7 @@ mod command;
 mod config;
 mod connected;
 mod course;
+mod ending;
 mod event;
 mod fate;
 mod handling;

@@ -1,6 +1,6 @@
-ghost use Rattle.std.specs.Prelude.{◌≡◌, ◌≤◌, ◌<◌, ◌+◌, ◌^◌, ◌++◌, ◌∷◌, ◌==◌, [], OnOk, Some, filter, not, vec_len};
+ghost use Rattle.std.specs.Prelude.{◌≡◌, ◌≤◌, ◌<◌, ◌+◌, ◌^◌, ◌++◌, ◌∷◌, ◌==◌, [], All, OnOk, Some, filter, not};
 ghost use Rattle.std.specs.Option.{option_copied};
-ghost use Rattle.oi_history.specs.Queues.{drawable, drawn, is_wanted, queued_as, solicited_told, unasked};
+ghost use Rattle.oi_history.specs.Queues.{drawn, drawn_by, is_wanted, queued_as, solicited_told, unasked};
 ghost use Rattle.oi_base.specs.declared.login.Params.{Params};
 
 use crate::acceptance::{held, holder_of};
@@ -79,4 +79,79 @@ pub fn is_wanted(busy: &[Allocated], tasks: &[Task], r: &Solicited) -> bool
         Some(task) => is_live_on(&task.fate, r.tag),
         None => false,
     }
+}
+
+// The pieces that an R2T asks for.
+fn queue_one(
+    queue: &mut Vec<Queued>,
+    params: Option<Params>,
+    busy: &[Allocated],
+    r: &Solicited,
+) -> Result<(), NoMemory>
+    requires some { (p : Params) → params ≡ Some p → 1 ≤ p.max_send }
+    requires fits { r.now.offset + r.now.length < 2 ^ 32 }
+    ensures { OnOk result (queue.new.items ≡ queue.old.items ++ drawn_by params busy.now r.now) }
+{
+    let (Some(params), Some(id)) = (params, holder_of(busy, r.tag)) else {
+        return Ok(());
+    };
+    let more = cut_pieces(r.offset, r.length, params.max_send);
+    queue_pieces(queue, id, r.tag, r.ttt, more)
+}
+
+fn queue_wanted(
+    queue: &mut Vec<Queued>,
+    params: Option<Params>,
+    busy: &[Allocated],
+    tasks: &[Task],
+    r: &Solicited,
+) -> Result<(), NoMemory>
+    requires some { (p : Params) → params ≡ Some p → 1 ≤ p.max_send }
+    requires fits { r.now.offset + r.now.length < 2 ^ 32 }
+    ensures { OnOk result (queue.new.items ≡ queue.old.items ++ drawn params busy.now tasks.now (r.now ∷ [])) }
+{
+    if is_wanted(busy, tasks, r) {
+        queue_one(queue, params, busy, r)
+    } else {
+        Ok(())
+    }
+}
+
+/// The data that all R2Ts ask for which still count.
+pub fn queue_drawn(
+    queue: &mut Vec<Queued>,
+    params: Option<Params>,
+    busy: &[Allocated],
+    tasks: &[Task],
+    solicited: &[Solicited],
+) -> Result<(), NoMemory>
+    requires some { (p : Params) → params ≡ Some p → 1 ≤ p.max_send }
+    requires fits { All (λ r. r.offset + r.length < 2 ^ 32) solicited.now }
+    ensures { OnOk result (queue.new.items ≡ queue.old.items ++ drawn params busy.now tasks.now solicited.now) }
+{
+    for r in solicited {
+        queue_wanted(queue, params, busy, tasks, r)?;
+    }
+    Ok(())
+}
+
+/// An R2T that counts. One that was accepted ends inside the data of its command, so it does not come to a refusal.
+pub fn hear_r2t(solicited: &mut Vec<Solicited>, head: &Header) -> Result<(), NoMemory>
+    requires { All (λ r. r.offset + r.length < 2 ^ 32) solicited.old.items }
+    ensures told { OnOk result (solicited.new.items ≡ solicited_told head.now solicited.old.items) }
+    ensures fits { OnOk result (All (λ r. r.offset + r.length < 2 ^ 32) solicited.new.items) }
+{
+    let Header::R2t(h) = head else {
+        return Ok(());
+    };
+    if h.length > u32::MAX - h.offset {
+        return Err(NoMemory);
+    }
+    solicited.push(Solicited {
+        tag: h.tag,
+        ttt: h.ttt,
+        offset: h.offset,
+        length: h.length,
+    })?;
+    Ok(())
 }
