@@ -2,7 +2,10 @@
 use Rattle.std.proofs.Common.{◌≡◌, ◌∙◌, ◌+◌, ◌<◌, ℕ, suc, zero, List, [], ◌∷◌, ◌++◌, length, map, take, sym, ap, refl, arith, add-one, append-nil, append_assoc, get_or, Option, Some, None, slice_get}
 use Rattle.oi_base.specs.declared.tag.Tag.{Tag}
 use Rattle.oi_history.specs.Ending.{live_tag, over_from, tag_gone}
-use Rattle.oi_history.specs.Meanings.{tag_over, tags_over}
+use Rattle.oi_history.specs.Ledgers.{ended_by_live}
+use Rattle.oi_history.specs.Meanings.{ended_step, tag_over, tags_over}
+use Rattle.oi_history.specs.declared.event.Event.{Event}
+use Rattle.oi_history.specs.declared.event.Event.TheVariants.{Login, Reap, Lost}
 use Rattle.oi_history.specs.declared.fate.Fate.{Fate}
 use Rattle.oi_history.specs.declared.fate.Fate.TheVariants.{Waiting, Live, Done}
 use Rattle.oi_history.specs.declared.task.Task.{Task}
@@ -36,3 +39,9 @@ pub over_tasks : (ts us : List Task) → over_from (map (λ (t : Task). live_tag
 over_tasks [] us = refl
 over_tasks (t ∷ ts) [] = refl
 over_tasks (t ∷ ts) (u ∷ us) = ap (λ (z : List Tag). z ++ over_from (map (λ (x : Task). live_tag x.fate) ts) us) (gone_over t.fate u) ∙ ap (λ (z : List Tag). tag_over t.fate u.fate ++ z) (over_tasks ts us)
+
+pub ended_same : (e : Event) (before : List (Option Tag)) (ts us : List Task) (ended : List Tag) → before ≡ map (λ (t : Task). live_tag t.fate) ts → ended_by_live e before us ended ≡ ended_step e ts us ended
+ended_same (Login generation params cmdsn max exp_stat) before ts us ended is = refl
+ended_same (Lost generation cause) before ts us ended is = refl
+ended_same (Reap tag) before ts us ended is = refl
+ended_same e before ts us ended is = ap (λ (z : List Tag). ended ++ z) (ap (λ (b : List (Option Tag)). over_from b us) is ∙ over_tasks ts us)

@@ -22,3 +22,4 @@ pub mod Owing
 pub mod Losses
 pub mod Permitted
 pub mod Trackers
+pub mod Ledgers

@@ -1,5 +1,5 @@
 -- All meanings of a session at one point of its history, and what one entry makes of them: one step for each.
-use Rattle.std.specs.Prelude.{ℕ, Bool, false, not, ◌==◌, ◌+◌, ◌&&◌, ◌++◌, List, [], ◌∷◌, Option, Some, None, is_none, count_by, drop, if◌then◌else◌}
+use Rattle.std.specs.Prelude.{ℕ, Bool, false, not, ◌==◌, ◌+◌, ◌-◌, ◌^◌, min, ◌&&◌, ◌++◌, List, [], ◌∷◌, Option, Some, None, is_none, count_by, drop, if◌then◌else◌}
 use Rattle.oi_base.specs.declared.login.Params.{Params}
 use Rattle.oi_base.specs.declared.tag.Tag.{Tag}
 use Rattle.oi_history.specs.Acceptance.{is_current}
@@ -128,12 +128,12 @@ ended_step (Lost generation cause) before after ended = []
 ended_step (Reap tag) before after ended = drop 1 ended
 ended_step e before after ended = ended ++ tags_over before after
 
--- submissions that are not done
+-- submissions that are not done; far above what may wait the count stands still
 abbrev pub unfinished : List Task → ℕ
-unfinished tasks = count_by (λ t. not (is_done t.fate)) tasks
+unfinished tasks = min (count_by (λ t. not (is_done t.fate)) tasks) (2 ^ 32 - 1)
 
 abbrev pub told_by : Event → Told → Told
-told_by (Submit id request) told = record { stat = told.stat; pending = told.pending + 1 }
+told_by (Submit id request) told = record { stat = told.stat; pending = min (told.pending + 1) (2 ^ 32 - 1) }
 told_by e told = told
 
 abbrev pub told_step : Bool → Event → ℕ → List Task → Told → Told

@@ -1,4 +1,5 @@
-ghost use Rattle.std.specs.Prelude.{◌≡◌, ◌++◌, ◌<◌, ◌+◌, ◌-◌, ◌^◌, ◌∷◌, [], OnOk, OnErr};
+ghost use Rattle.std.specs.Prelude.{◌≡◌, ◌++◌, ◌<◌, ◌+◌, ◌-◌, ◌^◌, ◌≤◌, ◌∷◌, [], OnOk, drop};
+ghost use Rattle.oi_base.specs.TagLayout.{age_after};
 ghost use Rattle.oi_history.specs.Connected.{asked_step, asked_told, echoes_step, echoes_told, given_rule, heard_step, is_given, is_its_tag, is_logout_response, leaving_step, logged_out_step, logout_step, managed_step, ping_step, ping_told, rule_on};
 
 use crate::acceptance::rule_of;
@@ -107,5 +108,115 @@ pub fn logged_out_step(accepted: bool, leaving: bool, event: &Event, done: bool)
         Event::PduIn { pdu, .. } if accepted && leaving && is_logout_response(&pdu.head) => true,
         Event::Lost { .. } => false,
         _ => done,
+    }
+}
+
+// The age of the tags of a connection; before the first one that of its tags to come.
+fn age(generation: u64) -> u8
+    ensures age { result ≡ age_after generation }
+    ensures fits { result < 16 }
+{
+    if generation == 0 { 0 } else { age_of(generation) }
+}
+
+fn is_given(generation: u64, managed: u32, tag: Tag) -> bool
+    ensures { result ≡ is_given generation managed tag.0 }
+{
+    let first = u64::from(age(generation)) * 0x1000_0000 + 0x0800_0000;
+    let tag = u64::from(tag.0);
+    first <= tag && tag < first + u64::from(managed)
+}
+
+fn given_rule(generation: u64, managed: u32, tag: Tag) -> Option<Rule>
+    ensures { result ≡ given_rule generation managed tag.0 }
+{
+    if is_given(generation, managed, tag) {
+        None
+    } else {
+        Some(Rule::UnknownTag)
+    }
+}
+
+/// The first rule that a PDU of the connection breaks.
+pub fn rule_on(
+    generation: u64,
+    managed: u32,
+    busy: &[Allocated],
+    tasks: &[Task],
+    head: &Header,
+    payload: &[u8],
+) -> Option<Rule>
+    ensures { result ≡ rule_on generation managed busy.now tasks.now head.now payload.now }
+{
+    match head {
+        Header::NopIn(h) if h.tag.0 == RESERVED => None,
+        Header::NopIn(h) => given_rule(generation, managed, h.tag),
+        Header::TaskResponse(h) => given_rule(generation, managed, h.tag),
+        Header::LogoutResponse(h) => given_rule(generation, managed, h.tag),
+        _ => rule_of(busy, tasks, head, payload),
+    }
+}
+
+fn hear_echo(echoes: &mut Vec<Echo>, head: &Header) -> Result<(), NoMemory>
+    ensures { OnOk result (echoes.new.items ≡ echoes_told head.now echoes.old.items) }
+{
+    let Header::NopIn(h) = head else {
+        return Ok(());
+    };
+    if h.tag.0 == RESERVED && h.ttt != RESERVED {
+        echoes.push(Echo {
+            ttt: h.ttt,
+            lun: h.lun,
+        })?;
+    }
+    Ok(())
+}
+
+fn drop_first(echoes: &mut Vec<Echo>)
+    ensures { echoes.new.items ≡ drop 1 echoes.old.items }
+{
+    if !echoes.is_empty() {
+        let _ = echoes.remove(0);
+    }
+}
+
+/// NOP-Ins that wait for their answer.
+pub fn echoes_step(echoes: &mut Vec<Echo>, accepted: bool, event: &Event) -> Result<(), NoMemory>
+    ensures { OnOk result (echoes.new.items ≡ echoes_step accepted event.now echoes.old.items) }
+{
+    match event {
+        Event::Login { .. } | Event::Lost { .. } => {
+            echoes.clear();
+            Ok(())
+        }
+        Event::Nop { tag, .. } if *tag == RESERVED => {
+            drop_first(echoes);
+            Ok(())
+        }
+        Event::PduIn { pdu, .. } if accepted => hear_echo(echoes, &pdu.head),
+        _ => Ok(()),
+    }
+}
+
+fn hear_async(asked: &mut Vec<u8>, head: &Header) -> Result<(), NoMemory>
+    ensures { OnOk result (asked.new.items ≡ asked_told head.now asked.old.items) }
+{
+    if let Header::Async(h) = head {
+        asked.push(h.event)?;
+    }
+    Ok(())
+}
+
+/// Events of Async Messages that counted on the connection.
+pub fn asked_step(asked: &mut Vec<u8>, accepted: bool, event: &Event) -> Result<(), NoMemory>
+    ensures { OnOk result (asked.new.items ≡ asked_step accepted event.now asked.old.items) }
+{
+    match event {
+        Event::Login { .. } => {
+            asked.clear();
+            Ok(())
+        }
+        Event::PduIn { pdu, .. } if accepted => hear_async(asked, &pdu.head),
+        _ => Ok(()),
     }
 }

@@ -66,7 +66,8 @@ pub fn drop_queued(queue: &mut Vec<Queued>, tag: Tag)
 
 /// Takes the R2Ts of a released tag out.
 pub fn drop_solicited(solicited: &mut Vec<Solicited>, tag: Tag)
-    ensures { solicited.new.items ≡ filter (λ r. not (r.tag.0 == tag.0)) solicited.old.items }
+    ensures is { solicited.new.items ≡ filter (λ r. not (r.tag.0 == tag.0)) solicited.old.items }
+    ensures fits { All (λ r. r.offset + r.length < 2 ^ 32) solicited.old.items → All (λ r. r.offset + r.length < 2 ^ 32) solicited.new.items }
 {
     solicited.retain(|r| r.tag.0 != tag.0);
 }
