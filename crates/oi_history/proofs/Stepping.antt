@@ -20,7 +20,15 @@ use Rattle.oi_window.specs.declared.window.Window.{Window}
 
 abbrev pub tracker_of : Meanings → Tracker
 tracker_of m = record {
-  clock = m.clock; phase = m.phase; managed = m.managed; heard = m.heard; ping = m.ping; leaving = m.leaving; logout_sent = m.logout_sent; logged_out = m.logged_out; handler = m.handler;
+  clock = m.clock;
+  phase = m.phase;
+  managed = m.managed;
+  heard = m.heard;
+  ping = m.ping;
+  leaving = m.leaving;
+  logout_sent = m.logout_sent;
+  logged_out = m.logged_out;
+  handler = m.handler;
 }
 
 -- the lists of one, and the single facts given

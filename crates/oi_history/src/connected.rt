@@ -116,7 +116,11 @@ fn age(generation: u64) -> u8
     ensures age { result ≡ age_after generation }
     ensures fits { result < 16 }
 {
-    if generation == 0 { 0 } else { age_of(generation) }
+    if generation == 0 {
+        0
+    } else {
+        age_of(generation)
+    }
 }
 
 fn is_given(generation: u64, managed: u32, tag: Tag) -> bool

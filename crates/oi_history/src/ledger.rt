@@ -82,7 +82,8 @@ impl Model for Ledger {
 }
 
 impl Ledger {
-    ghost use Rattle.std.specs.Prelude.{◌≡◌, IfOk, OnOk};
+    ghost use Rattle.std.specs.Prelude.{◌≡◌, IfOk, OnOk, slice_get};
+    ghost use Rattle.std.specs.Option.{option_copied};
     ghost use Rattle.oi_history.specs.Configs.{IsValidConfig};
     ghost use Rattle.oi_history.specs.Connected.{asked_step, echoes_step};
     ghost use Rattle.oi_history.specs.Ledgers.{CanStep, IsLogin};
@@ -115,7 +116,10 @@ impl Ledger {
             params: None,
             window: Window::at(Serial(0), Serial(0)),
             stat: 0,
-            told: Told { stat: 0, pending: 0 },
+            told: Told {
+                stat: 0,
+                pending: 0,
+            },
             broken: None,
             echoes: Vec::new(alloc),
             asked: Vec::new(alloc),
@@ -126,6 +130,38 @@ impl Ledger {
             solicited: Vec::new(alloc),
             tasks: Vec::new(alloc),
         })
+    }
+
+    pub fn phase(&self) -> Phase
+        ensures { result ≡ self.now.now.phase }
+    {
+        self.tracker.phase
+    }
+
+    pub fn handler(&self) -> Handler
+        ensures { result ≡ self.now.now.handler }
+    {
+        self.tracker.handler
+    }
+
+    pub fn window(&self) -> Window
+        ensures { result ≡ self.now.now.window }
+    {
+        self.window
+    }
+
+    /// The rule by which the target broke the connection.
+    pub fn broken(&self) -> Option<Rule>
+        ensures { result ≡ self.now.now.broken }
+    {
+        self.broken
+    }
+
+    /// The submission with this id.
+    pub fn task(&self, id: u64) -> Option<&Task>
+        ensures { option_copied result ≡ slice_get self.now.now.tasks id }
+    {
+        self.tasks.get(id as usize)
     }
 
     // The PDU of an event is on the live connection, unbroken so far.
@@ -170,7 +206,9 @@ impl Ledger {
         let current = self.is_current(event);
         let rule = self.rule(event);
         let accepted = counts(current, rule);
-        let tracker = self.tracker.step(&self.config, accepted, &self.tasks, event);
+        let tracker = self
+            .tracker
+            .step(&self.config, accepted, &self.tasks, event);
         let stat = stat_step(accepted, event, self.stat);
         let told = self.told;
         let joint = is_joint(is_fail_fast(self.tracker.phase), told.pending, event);

@@ -91,7 +91,12 @@ fn stat_told(numbers: Option<Numbers>, stat: u32) -> u32
     ensures { result ≡ stat_told numbers stat }
 {
     match numbers {
-        Some(Numbers { stat: Some(own), .. }) => own.next().0,
+        Some(
+            Numbers {
+                stat: Some(own),
+                ..
+            },
+        ) => own.next().0,
         _ => stat,
     }
 }
@@ -106,7 +111,12 @@ pub fn stat_step(accepted: bool, event: &Event, stat: u32) -> u32
     }
 }
 
-pub fn broken_step(current: bool, rule: Option<Rule>, event: &Event, broken: Option<Rule>) -> Option<Rule>
+pub fn broken_step(
+    current: bool,
+    rule: Option<Rule>,
+    event: &Event,
+    broken: Option<Rule>,
+) -> Option<Rule>
     ensures { result ≡ broken_after current rule event.now broken }
 {
     match event {
@@ -368,9 +378,7 @@ pub fn busy_step(busy: &mut Vec<Allocated>, event: &Event) -> Result<(), NoMemor
 {
     match event {
         Event::Login { .. } | Event::Lost { .. } => busy.clear(),
-        Event::Issue {
-            id, tag, cmdsn, ..
-        } => busy.push(Allocated {
+        Event::Issue { id, tag, cmdsn, .. } => busy.push(Allocated {
             tag: *tag,
             id: *id,
             cmdsn: *cmdsn,

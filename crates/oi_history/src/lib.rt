@@ -42,4 +42,3 @@ pub use reply::ReplyData;
 pub use rule::Rule;
 pub use state::State;
 pub use task::{Received, Task};
-pub use tracker::Tracker;

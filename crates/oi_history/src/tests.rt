@@ -1,12 +1,22 @@
+ghost use Rattle.std.specs.Prelude.{ℤ, pos, negsuc, ◌≤ℤ◌};
+ghost use Rattle.oi_history.specs.Configs.{IsValidConfig};
+ghost use Rattle.oi_history.specs.Ledgers.{CanStep};
+ghost use Rattle.oi_history.specs.Meanings.{Meanings};
+
 use super::*;
-use oi_base::{Blob, Serial, Tag};
+use crate::tracker::Tracker;
+use oi_base::{Blob, Params, Serial, Tag};
 use oi_pdu::{Header, Pdu, TaskResponse};
+use oi_recovery::HostCode;
 use oi_scsi::{Kind, Request};
 use std::alloc::Global;
 use std::process::Abort;
 use std::test::Fail;
 
-fn config(replacement: i32) -> SessionConfig {
+fn config(replacement: i32) -> SessionConfig
+    requires { (negsuc 0 ≤ℤ replacement) × (replacement ≤ℤ pos 86400) }
+    ensures { IsValidConfig result }
+{
     SessionConfig {
         sid: 1,
         tries: 6,
@@ -136,7 +146,9 @@ fn loses(
     lost: Phase,
     late: Phase,
     over: Phase,
-) -> Result<(), Fail> {
+) -> Result<(), Fail>
+    requires { (negsuc 0 ≤ℤ replacement) × (replacement ≤ℤ pos 86400) }
+{
     let config = config(replacement);
     let cut = Event::Lost {
         generation: 1,
@@ -161,4 +173,83 @@ fn replacement_time(rt: HostRuntime) -> Result<(), Fail> {
     loses(&rt, 120, recovering, recovering, fail_fast)?;
     loses(&rt, 0, fail_fast, fail_fast, fail_fast)?;
     loses(&rt, -1, recovering, recovering, recovering)
+}
+
+// A request that waits fails when the time for a new connection is over, and one that comes in then fails at once.
+#[test]
+fn requests_without_a_connection(rt: HostRuntime) -> Result<(), Fail> {
+    let mut ledger = Ledger::new(rt.alloc(), config(120))?;
+    ledger.step(&Numbered {
+        number: 0,
+        event: submit(0),
+    })?;
+    ledger.step(&Numbered {
+        number: 1,
+        event: login(),
+    })?;
+    ledger.step(&Numbered {
+        number: 2,
+        event: cut(),
+    })?;
+    assert_eq!(rt; ledger.phase(), Phase::Recovering { since: 0 });
+    ledger.step(&Numbered {
+        number: 3,
+        event: Event::Tick { now: 120_000 },
+    })?;
+    assert_eq!(rt; ledger.phase(), Phase::FailFast { since: 0 });
+    ledger.step(&Numbered {
+        number: 4,
+        event: submit(1),
+    })?;
+    assert!(rt; ledger.task(0).is_some_and(|t| t.fate == failed(3)));
+    assert!(rt; ledger.task(1).is_some_and(|t| t.fate == failed(4)));
+    Ok(())
+}
+
+fn submit(id: u64) -> Event
+    ensures { (m : Meanings) → CanStep m result }
+{
+    let request = Request {
+        lun: 0,
+        kind: Kind::Read { lba: 0, blocks: 1 },
+    };
+    Event::Submit { id, request }
+}
+
+fn login() -> Event
+    ensures { (m : Meanings) → CanStep m result }
+{
+    Event::Login {
+        generation: 1,
+        params: Params {
+            initial_r2t: true,
+            immediate: true,
+            max_send: 8192,
+            max_recv: 262_144,
+            max_burst: 262_144,
+            first_burst: 65_536,
+            outstanding: 1,
+            time2wait: 2,
+            time2retain: 20,
+        },
+        cmdsn: 1,
+        max: 32,
+        exp_stat: 5,
+    }
+}
+
+fn cut() -> Event
+    ensures { (m : Meanings) → CanStep m result }
+{
+    Event::Lost {
+        generation: 1,
+        cause: LostCause::Cut,
+    }
+}
+
+fn failed(at: u64) -> Fate {
+    Fate::Done {
+        outcome: Outcome::Host(HostCode::FailFast),
+        at,
+    }
 }

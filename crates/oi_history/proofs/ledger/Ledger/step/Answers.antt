@@ -25,7 +25,7 @@ returns-clause-now c =
     stat c.told_step-self-inside.result c.broken_step-broken.result
     (search rules) (search rules) (search rules)
     (c.step-tracker.ensures ∙ (ap (λ (ts : List Task). tracked c.self.inside.config accepted ts e c.self.inside.tracker) c.deref.ensures.value
-        ∙ ap (λ (v : LedgerView). tracked v.config accepted v.now.tasks e (tracker_of v.now)) c.self.view_is))
+    ∙ ap (λ (v : LedgerView). tracked v.config accepted v.now.tasks e (tracker_of v.now)) c.self.view_is))
     (c.generation_step-generation.ensures ∙ ap (λ (v : LedgerView). generation_after e v.now.generation) c.self.view_is)
     (c.params_step-params.ensures.is ∙ ap (λ (v : LedgerView). params_after e v.now.params) c.self.view_is)
     (c.window_step-window.ensures ∙ ap (λ (v : LedgerView). numbering_after accepted e v.now.window) c.self.view_is)
@@ -35,5 +35,5 @@ returns-clause-now c =
     (c.in_ok-step_tasks.ensures.now ∙ ap (λ (C : SessionConfig). tasks_stepped C at accepted e c.step_queue.new.self.now) c.step_queue.ensures.config)
     (c.in_ok-step_tags.ensures.now ∙ ap (λ (C : SessionConfig). tags_stepped C accepted e c.step_tasks.new.self.now) (c.step_tasks.ensures.config ∙ c.step_queue.ensures.config))
     (c.told_step-self-inside.ensures ∙ (ap (λ (ts : List Task). told_step c.is_joint-joint.result e stat ts c.self.inside.told) (c.deref-2.ensures.value ∙ ap (λ (v : LedgerView). v.now.tasks) c.self-2.view_is)
-        ∙ (ap (λ (j : Bool). told_step j e stat m3.tasks c.self.inside.told) (c.is_joint-joint.ensures ∙ ap (λ (f : Bool). is_joint f c.self.inside.told.pending e) c.is_fail_fast.ensures)
-        ∙ ap (λ (v : LedgerView). told_step (is_joint (is_fail_fast v.now.phase) v.now.told.pending e) e stat m3.tasks v.now.told) c.self.view_is)))
+    ∙ (ap (λ (j : Bool). told_step j e stat m3.tasks c.self.inside.told) (c.is_joint-joint.ensures ∙ ap (λ (f : Bool). is_joint f c.self.inside.told.pending e) c.is_fail_fast.ensures)
+    ∙ ap (λ (v : LedgerView). told_step (is_joint (is_fail_fast v.now.phase) v.now.told.pending e) e stat m3.tasks v.now.told) c.self.view_is)))
