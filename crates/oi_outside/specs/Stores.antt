@@ -16,6 +16,14 @@ told_with o path text = option_map (λ records. with_path records path text) o
 abbrev pub told_without : Option Records → List ℕ → Option Records
 told_without o path = option_map (λ records. without_path records path) o
 
+-- what is told of the text at a path
+abbrev pub told_at : Option Records → List ℕ → Option (Option (List ℕ))
+told_at o path = option_map (λ records. lookup records path) o
+
+-- where the records are told, this is what they have at the path
+abbrev pub IsToldAt : Option Records → List ℕ → Option (List ℕ) → Type 0
+IsToldAt o path text = (records : Records) → o ≡ Some records → lookup records path ≡ text
+
 -- a list gives the paths, which are texts, in ascending order; no list changes the records
 abbrev pub Lists : Result (List (List ℕ)) StoreError → Option Records → Option Records → Type 0
 Lists (Ok found) old new = (new ≡ old) × Ascends found × All IsUtf8 found × ((records : Records) → old ≡ Some records → found ≡ paths records)
@@ -27,7 +35,7 @@ Finds (Ok found) path old new = (new ≡ old) × ((records : Records) → old �
 Finds (Err e) path old new = new ≡ old
 
 -- a write puts the text at the path; a failed one did it or did nothing; want of memory does nothing
-abbrev pub Puts : {T : Type 0} → Result T StoreError → List ℕ → List ℕ → Option Records → Option Records → Type 0
+abbrev pub Puts : Result (Unit {0}) StoreError → List ℕ → List ℕ → Option Records → Option Records → Type 0
 Puts (Ok x) path text old new = new ≡ told_with old path text
 Puts (Err Failed) path text old new = (new ≡ old) ⊎ (new ≡ told_with old path text)
 Puts (Err Memory) path text old new = new ≡ old

@@ -58,28 +58,30 @@ fn lists(rt: &impl Abort, store: &mut MemStore, paths: &[&[u8]]) {
 }
 
 #[test]
-fn store_keeps_texts_by_path(rt: HostRuntime) -> Result<(), Fail> {
+fn store_lists_paths_in_the_order_of_their_bytes(rt: HostRuntime) -> Result<(), Fail> {
     let mut store = store_failing_at(rt.alloc(), Vec::new(rt.alloc()));
     lists(&rt, &mut store, &[]);
-    assert_eq!(rt; store.write_whole("nodes/b", b"one"), Ok(()));
-    assert_eq!(rt; store.write_whole("nodes/Z", b""), Ok(()));
-    assert_eq!(rt; store.write_whole("nodes/\u{e9}", b"\0\xff"), Ok(()));
-    assert_eq!(rt; store.write_whole("nodes", b"two"), Ok(()));
-    assert_eq!(rt; store.write_whole("nodes/b", b"three"), Ok(()));
-    lists(
-        &rt,
-        &mut store,
-        &[b"nodes", b"nodes/Z", b"nodes/b", b"nodes/\xc3\xa9"],
-    );
-    reads(&rt, &mut store, "nodes/b", b"three");
-    reads(&rt, &mut store, "nodes/Z", b"");
-    reads(&rt, &mut store, "nodes/\u{e9}", b"\0\xff");
-    assert_eq!(rt; store.read("nodes/"), Ok(None));
-    assert_eq!(rt; store.remove("nodes/b"), Ok(true));
-    assert_eq!(rt; store.remove("nodes/b"), Ok(false));
-    assert_eq!(rt; store.read("nodes/b"), Ok(None));
-    assert_eq!(rt; store.text_at("nodes"), Some(b"two".as_slice()));
-    lists(&rt, &mut store, &[b"nodes", b"nodes/Z", b"nodes/\xc3\xa9"]);
+    assert_eq!(rt; store.write_whole("n/\u{e9}", b""), Ok(()));
+    assert_eq!(rt; store.write_whole("n/b", b""), Ok(()));
+    assert_eq!(rt; store.write_whole("n/Z", b""), Ok(()));
+    assert_eq!(rt; store.write_whole("n", b""), Ok(()));
+    lists(&rt, &mut store, &[b"n", b"n/Z", b"n/b", b"n/\xc3\xa9"]);
+    Ok(())
+}
+
+#[test]
+fn store_keeps_texts_by_path(rt: HostRuntime) -> Result<(), Fail> {
+    let mut store = store_failing_at(rt.alloc(), Vec::new(rt.alloc()));
+    assert_eq!(rt; store.write_whole("n/b", b"one"), Ok(()));
+    assert_eq!(rt; store.write_whole("n", b"\0\xff"), Ok(()));
+    assert_eq!(rt; store.write_whole("n/b", b"three"), Ok(()));
+    reads(&rt, &mut store, "n/b", b"three");
+    reads(&rt, &mut store, "n", b"\0\xff");
+    assert_eq!(rt; store.read("n/"), Ok(None));
+    assert_eq!(rt; store.remove("n/b"), Ok(true));
+    assert_eq!(rt; store.remove("n/b"), Ok(false));
+    assert_eq!(rt; store.text_at("n/b"), None);
+    assert_eq!(rt; store.text_at("n"), Some(b"\0\xff".as_slice()));
     Ok(())
 }
 
