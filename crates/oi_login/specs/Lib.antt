@@ -1,0 +1,9 @@
+pub mod Answers
+pub mod Chap
+pub mod Configs
+pub mod Keys
+pub mod Numbers
+pub mod Requests
+pub mod Stages
+pub mod States
+pub mod Turns
