@@ -1,3 +1,4 @@
+pub mod Exchanging
 pub mod Readings
 pub mod Refused
 pub mod Steps

@@ -1,6 +1,7 @@
 pub mod Answers
 pub mod Chap
 pub mod Configs
+pub mod Exchanges
 pub mod Keys
 pub mod Numbers
 pub mod Requests

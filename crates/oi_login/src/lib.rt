@@ -6,6 +6,7 @@ mod chap;
 mod config;
 mod fault;
 mod keys;
+mod laws;
 mod login;
 mod moves;
 mod numbers;
@@ -18,4 +19,5 @@ mod turns;
 
 pub use config::{LoginAuth, LoginConfig};
 pub use fault::LoginFault;
+pub use laws::login_exact;
 pub use login::{Login, LoginStep};

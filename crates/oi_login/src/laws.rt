@@ -1,0 +1,29 @@
+ghost use Rattle.std.specs.Prelude.{◌≡◌, ◌++◌, ◌∷◌, [], Some, None, List, Result, Option};
+ghost use Rattle.oi_base.specs.declared.login.LoginDone.{LoginDone};
+ghost use Rattle.oi_pdu.specs.declared.codec.Pdu.{Pdu};
+ghost use Rattle.oi_login.specs.Exchanges.{AnswersAll, ComesTo, LoginExchange, Outcome, Going, Done, Failed, sent_in};
+ghost use Rattle.oi_login.specs.States.{LoginState, first_request, opening, state_at};
+ghost use Rattle.oi_login.specs.Turns.{Turns};
+ghost use Rattle.oi_login.specs.declared.config.LoginConfig.{LoginConfig};
+ghost use Rattle.oi_login.specs.declared.fault.LoginFault.{LoginFault};
+ghost use Rattle.oi_login.specs.declared.login.LoginStep.{LoginStep};
+ghost use Rattle.oi_login.specs.declared.moves.Turn.TheVariants.{Asks, Reaches, Fails};
+ghost use Rattle.oi_login.specs.declared.progress.Progress.{Progress};
+
+/// The machine is the login exchange: whatever responses come, the requests that it has sent and what it has answered are those
+/// of the definition. Besides, how the exchange grows by one response. The function does nothing.
+pub fn login_exact()
+    ensures whole { (c : LoginConfig) (responses : List Pdu) (answers : List (Result LoginStep LoginFault)) (new : LoginState) (outcome : Outcome)
+        → AnswersAll (state_at c (Some (opening c))) responses answers new → ComesTo new.at answers outcome
+        → LoginExchange c responses (first_request c ∷ sent_in answers) outcome }
+    ensures first { (c : LoginConfig) → LoginExchange c [] (first_request c ∷ []) (Going (opening c)) }
+    ensures sends { (c : LoginConfig) (responses requests : List Pdu) (p q : Progress) (response request : Pdu)
+        → LoginExchange c responses requests (Going p) → Turns c p response (Asks q request)
+        → LoginExchange c (responses ++ response ∷ []) (requests ++ request ∷ []) (Going q) }
+    ensures done { (c : LoginConfig) (responses requests : List Pdu) (p : Progress) (response : Pdu) (done : LoginDone)
+        → LoginExchange c responses requests (Going p) → Turns c p response (Reaches done)
+        → LoginExchange c (responses ++ response ∷ []) requests (Done done) }
+    ensures failed { (c : LoginConfig) (responses requests : List Pdu) (p : Progress) (response : Pdu) (fault : LoginFault)
+        → LoginExchange c responses requests (Going p) → Turns c p response (Fails fault)
+        → LoginExchange c (responses ++ response ∷ []) requests (Failed fault) }
+{}
