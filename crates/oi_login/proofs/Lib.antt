@@ -3,3 +3,4 @@ pub mod Readings
 pub mod Refused
 pub mod Steps
 pub mod Texts
+pub mod Unique

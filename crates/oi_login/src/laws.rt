@@ -11,7 +11,8 @@ ghost use Rattle.oi_login.specs.declared.moves.Turn.TheVariants.{Asks, Reaches, 
 ghost use Rattle.oi_login.specs.declared.progress.Progress.{Progress};
 
 /// The machine is the login exchange: whatever responses come, the requests that it has sent and what it has answered are those
-/// of the definition. Besides, how the exchange grows by one response. The function does nothing.
+/// of the definition. Besides, how the exchange grows by one response, and that settings and responses determine it. The function
+/// does nothing.
 pub fn login_exact()
     ensures whole { (c : LoginConfig) (responses : List Pdu) (answers : List (Result LoginStep LoginFault)) (new : LoginState) (outcome : Outcome)
         → AnswersAll (state_at c (Some (opening c))) responses answers new → ComesTo new.at answers outcome
@@ -26,4 +27,6 @@ pub fn login_exact()
     ensures failed { (c : LoginConfig) (responses requests : List Pdu) (p : Progress) (response : Pdu) (fault : LoginFault)
         → LoginExchange c responses requests (Going p) → Turns c p response (Fails fault)
         → LoginExchange c (responses ++ response ∷ []) requests (Failed fault) }
+    ensures one { (c : LoginConfig) (responses requests others : List Pdu) (outcome other : Outcome)
+        → LoginExchange c responses requests outcome → LoginExchange c responses others other → (requests ≡ others) × (outcome ≡ other) }
 {}
