@@ -26,7 +26,7 @@ IsOwn Over = ⊥
 IsOwn Memory = ⊥
 IsOwn fault = Unit {0}
 
-either : (b : Bool) (P Q R : Type 0) → (P → R) → (Q → R) → MatchBool b P Q → R
+pub either : (b : Bool) (P Q R : Type 0) → (P → R) → (Q → R) → MatchBool b P Q → R
 either true P Q R f g h = f h
 either false P Q R f g h = g h
 

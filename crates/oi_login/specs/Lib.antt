@@ -3,6 +3,7 @@ pub mod Chap
 pub mod Configs
 pub mod Exchanges
 pub mod Keys
+pub mod Mutual
 pub mod Numbers
 pub mod Requests
 pub mod Stages

@@ -1,9 +1,12 @@
 ghost use Rattle.std.specs.Prelude.{◌≡◌, ◌++◌, ◌∷◌, [], Some, None, List, Result, Option};
 ghost use Rattle.oi_base.specs.declared.login.LoginDone.{LoginDone};
+ghost use Rattle.oi_base.specs.declared.login.Mutual.{Mutual};
 ghost use Rattle.oi_pdu.specs.declared.codec.Pdu.{Pdu};
 ghost use Rattle.oi_login.specs.Exchanges.{AnswersAll, ComesTo, LoginExchange, Outcome, Going, Done, Failed, sent_in};
+ghost use Rattle.oi_login.specs.Mutual.{ShowsItself};
 ghost use Rattle.oi_login.specs.States.{LoginState, first_request, opening, state_at};
 ghost use Rattle.oi_login.specs.Turns.{Turns};
+ghost use Rattle.oi_login.specs.declared.config.LoginAuth.{LoginAuth};
 ghost use Rattle.oi_login.specs.declared.config.LoginConfig.{LoginConfig};
 ghost use Rattle.oi_login.specs.declared.fault.LoginFault.{LoginFault};
 ghost use Rattle.oi_login.specs.declared.login.LoginStep.{LoginStep};
@@ -29,4 +32,12 @@ pub fn login_exact()
         → LoginExchange c (responses ++ response ∷ []) requests (Failed fault) }
     ensures one { (c : LoginConfig) (responses requests others : List Pdu) (outcome other : Outcome)
         → LoginExchange c responses requests outcome → LoginExchange c responses others other → (requests ≡ others) × (outcome ≡ other) }
+{}
+
+/// With mutual CHAP a login is done only where the target has shown who it is: it gave its name, and the right response to this
+/// initiator's challenge, in answer to the request with that challenge. The function does nothing.
+pub fn target_shows_itself()
+    ensures { (c : LoginConfig) (auth : LoginAuth) (wanted : Mutual) (responses requests : List Pdu) (done : LoginDone)
+        → c.auth ≡ Some auth → auth.mutual ≡ Some wanted → LoginExchange c responses requests (Done done)
+        → ShowsItself auth wanted requests responses }
 {}
