@@ -1,7 +1,9 @@
+pub mod Encoded
 pub mod Exchanging
 pub mod Readings
 pub mod Refused
 pub mod Shown
+pub mod Sizes
 pub mod Steps
 pub mod Texts
 pub mod Unique

@@ -1,5 +1,6 @@
 -- What contracts see of a login, and what its calls answer.
 use Rattle.std.specs.Prelude.{◌≡◌, ℕ, Bool, true, false, not, List, [], Option, Some, None, IsSome, Result, Ok, Err, is_some}
+use Rattle.oi_pdu.specs.Wire.{Encodable}
 use Rattle.oi_pdu.specs.declared.codec.Pdu.{Pdu}
 use Rattle.oi_text.specs.Pairs.{text_of}
 use Rattle.oi_login.specs.Keys.{first_keys}
@@ -44,3 +45,8 @@ Answers old response (Err Over) new = (old.at ≡ None) × (new ≡ old)
 Answers old response (Err Memory) new = IsSome old.at × (new ≡ state_at old.config None)
 Answers old response (Err fault) new =
     (p : Progress) × (old.at ≡ Some p) × Turns old.config p response (Fails fault) × (new ≡ state_at old.config None)
+
+-- a request that is to be sent can be encoded
+abbrev pub CanBeSent : LoginStep → Type 0
+CanBeSent (Send request) = Encodable request
+CanBeSent (Done done) = Unit {0}

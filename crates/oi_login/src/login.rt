@@ -28,17 +28,21 @@ pub struct Login {
 }
 
 impl Model for Login {
+    ghost use Rattle.oi_login.specs.Configs.{IsSendable};
     ghost use Rattle.oi_login.specs.States.{LoginState, state_at};
 
     ghost Value = { LoginState };
 
     ghost view = { λ l. state_at l.config l.progress };
+
+    ghost invariant = { λ l. IsSendable l.config };
 }
 
 impl Login {
     ghost use Rattle.std.specs.Prelude.{◌≡◌, Some, IfOk};
     ghost use Rattle.oi_login.specs.Configs.{IsValidConfig};
-    ghost use Rattle.oi_login.specs.States.{Answers, first_request, opening, state_at};
+    ghost use Rattle.oi_pdu.specs.Wire.{Encodable};
+    ghost use Rattle.oi_login.specs.States.{Answers, CanBeSent, first_request, opening, state_at};
 
     /// Begins a login, and answers the first request.
     pub fn start(alloc: Global, config: LoginConfig) -> Result<(Login, Pdu), NoMemory>
@@ -72,7 +76,8 @@ impl Login {
 
     /// Takes the response to the last request. After Done and after every fault the login is over.
     pub fn next(&mut self, response: &Pdu) -> Result<LoginStep, LoginFault>
-        ensures { Answers self.old response.now result self.new }
+        ensures answer { Answers self.old response.now result self.new }
+        ensures encodable { IfOk result CanBeSent }
     {
         let Some(progress) = self.progress.take() else {
             return Err(LoginFault::Over);
