@@ -11,13 +11,14 @@ use Rattle.oi_pdu.specs.declared.header.Header.TheVariants as headers
 use Rattle.oi_pdu.specs.declared.header.LoginResponse.{LoginResponse as ResponseHeader}
 use Rattle.oi_text.specs.Pairs.{IsText, pair_text, text_of}
 use Rattle.oi_text.specs.declared.pairs.Pair.{Pair}
-use Rattle.oi_login.proofs.Sizes.{algorithm_short, offer_short, refused_short, response_short}
+use Rattle.oi_login.proofs.Sizes.{algorithm_short, first_short, offer_short, refused_short, response_short}
 use Rattle.oi_login.proofs.Steps.{either}
 use Rattle.oi_login.specs.Answers.{IsFound, refusals}
-use Rattle.oi_login.specs.Configs.{AuthFits, IsSendable, IsValidAuth}
-use Rattle.oi_login.specs.Keys.{response_keys}
+use Rattle.oi_login.specs.Configs.{AuthFits, HasNames, IsSendable, IsValidAuth}
+use Rattle.oi_login.specs.Keys.{first_keys, response_keys}
 use Rattle.oi_login.specs.Requests.{request_of}
 use Rattle.oi_login.specs.Stages.{heard, is_due, is_last_turn, is_long, is_operational}
+use Rattle.oi_login.specs.States.{begins_transit, first_request}
 use Rattle.oi_login.specs.Turns.{FailsBy, Hears, Moves, ReadsText, Refuses, Succeeds, TakesChallenge, Turns, TurnsBy, after_opening, after_security, asked, asked_on, opened_with, settled, settled_by, takes_method}
 use Rattle.oi_login.specs.declared.config.LoginAuth.{LoginAuth}
 use Rattle.oi_login.specs.declared.config.LoginConfig.{LoginConfig}
@@ -158,3 +159,6 @@ well_by c p h turn sends t = well_fails turn WrongStage t
 
 pub sends_well : (c : LoginConfig) (p q : Progress) (r request : Pdu) → IsSendable c → Turns c p r (Asks q request) → Encodable request
 sends_well c p q r request sends t = well_by c (heard p r.payload) r.head (Asks q request) sends t
+
+pub first_well : (c : LoginConfig) → length c.isid ≡ 6 → HasNames c → Encodable (first_request c)
+first_well c six names = encodable_at c.isid Opening (begins_transit c) 0 (text_of (first_keys c)) six (lit< tt) (first_short c names)

@@ -1,5 +1,5 @@
 -- Every request can be encoded: its text is short.
-use Rattle.std.proofs.Common.{◌≡◌, ◌∙◌, ◌<◌, ◌≤◌, ◌+◌, ◌*◌, ◌^◌, ◌%◌, ℕ, Bool, true, false, ◌==◌, ◌&&◌, not, List, [], ◌∷◌, ◌++◌, Option, Some, None, length, ap, sym, subst, refl, arith, length-append, MatchBool, MatchOption, lit≤}
+use Rattle.std.proofs.Common.{◌≡◌, ◌∙◌, inl, inr, ◌<◌, ◌≤◌, ◌+◌, ◌*◌, ◌^◌, ◌%◌, ℕ, Bool, true, false, ◌==◌, ◌&&◌, not, List, [], ◌∷◌, ◌++◌, Option, Some, None, length, ap, sym, subst, refl, arith, length-append, MatchBool, MatchOption, lit≤}
 use Rattle.std.specs.Prelude.{codes, if◌then◌else◌, nat_lt}
 use Rattle.std.specs.Fmt.{decimal}
 use Rattle.std.proofs.lemmas.Fmt.{length-decimal-le}
@@ -10,6 +10,7 @@ use Rattle.md5.proofs.StandardFacts.{length-md5}
 use Rattle.oi_base.specs.Serials.{successor}
 use Rattle.oi_base.specs.declared.login.Mutual.{Mutual}
 use Rattle.oi_chap.specs.Chap.{response}
+use Rattle.oi_names.specs.Names.{IsName, eui, iqn, naa}
 use Rattle.oi_negotiate.specs.declared.offer.Offer.{Offer}
 use Rattle.oi_pdu.specs.Wire.{Encodable}
 use Rattle.oi_pdu.specs.declared.codec.Pdu.{Pdu}
@@ -17,8 +18,8 @@ use Rattle.oi_text.specs.Pairs.{IsText, pair_text, text_of}
 use Rattle.oi_text.specs.declared.pairs.Pair.{Pair}
 use Rattle.oi_login.proofs.Texts.{text_of-append}
 use Rattle.oi_login.specs.Answers.{is_known, refusals, refusals_to}
-use Rattle.oi_login.specs.Configs.{AuthFits, IsSendable, IsUser, IsValidAuth, OfferFits}
-use Rattle.oi_login.specs.Keys.{algorithm_keys, binary_text, challenge_keys, common_keys, fixed_keys, flow_keys, offer_keys, response_keys, session_keys, time_keys, word_text}
+use Rattle.oi_login.specs.Configs.{HasNames, IsTargetName, IsUser, OfferFits}
+use Rattle.oi_login.specs.Keys.{algorithm_keys, binary_text, challenge_keys, common_keys, first_keys, fixed_keys, flow_keys, keyed, method_of, offer_keys, response_keys, session_keys, session_type, target_keys, time_keys, word_text}
 use Rattle.oi_login.specs.Requests.{request_of}
 use Rattle.oi_login.specs.declared.chap.Challenge.{Challenge as TargetChallenge}
 use Rattle.oi_login.specs.declared.config.LoginAuth.{LoginAuth}
@@ -122,3 +123,38 @@ refused_short (p ∷ ps) =
     let more = refused_short ps in
     let parts = ap length (text_of-append (refusals_to p.key) (refusals ps)) in
     omega (arith, here, more, parts, length-append (text_of (refusals_to p.key)) (text_of (refusals ps)), length-append (pair_text p) (text_of ps))
+
+led_short : (head rest name : List ℕ) → length head ≤ 4 → length rest ≤ 219 → name ≡ head ++ rest → length name ≤ 8192
+led_short head rest name front back e = omega (arith, ap length e, length-append head rest)
+
+name_short : (name : List ℕ) → IsName name → length name ≤ 8192
+name_short name (inl (rest, e, run)) = led_short iqn rest name (lit≤ tt) run.1 e
+name_short name (inr (inl (rest, e, run))) = led_short eui rest name (lit≤ tt) run.1 e
+name_short name (inr (inr (rest, e, run))) = led_short naa rest name (lit≤ tt) run.1 e
+
+target_short : (target : Option (List ℕ)) → IsTargetName target → AreShort (target_keys target)
+target_short None name = tt
+target_short (Some target) name = (lit≤ tt, (name_short target name, tt))
+
+type_short : (target : Option (List ℕ)) → length (session_type target) ≤ 8192
+type_short None = lit≤ tt
+type_short (Some target) = lit≤ tt
+
+method_short : (auth : Option LoginAuth) → length (method_of auth) ≤ 8192
+method_short None = lit≤ tt
+method_short (Some auth) = lit≤ tt
+
+first_few : (c : LoginConfig) (target : Option (List ℕ)) → length (target_keys target) ≤ 1
+first_few c None = lit≤ tt
+first_few c (Some target) = lit≤ tt
+
+pub first_short : (c : LoginConfig) → HasNames c → length (text_of (first_keys c)) < 2 ^ 24
+first_short c names =
+    let front : List Pair = keyed (codes "InitiatorName") c.initiator ∷ keyed (codes "SessionType") (session_type c.target) ∷ target_keys c.target in
+    let back : List Pair = keyed (codes "AuthMethod") (method_of c.auth) ∷ [] in
+    let fronts : AreShort front =
+    (lit≤ tt, (name_short c.initiator names.initiator, (lit≤ tt, (type_short c.target, target_short c.target names.target)))) in
+    let short = short-append front back fronts (lit≤ tt, (method_short c.auth, tt)) in
+    let few : length (front ++ back) ≤ 14 = omega (arith, length-append front back, first_few c c.target) in
+    let most = few_short (front ++ back) short few in
+    omega (arith, most)

@@ -2,6 +2,7 @@
 use Rattle.std.specs.Prelude.{◌≡◌, ◌<◌, ◌≤◌, ◌^◌, ℕ, true, List, [], ◌∷◌, Option, Some, None, length}
 use Rattle.std.specs.List.{list_all}
 use Rattle.oi_base.specs.declared.login.Mutual.{Mutual}
+use Rattle.oi_names.specs.Names.{IsName}
 use Rattle.oi_negotiate.specs.declared.offer.Offer.{Offer}
 use Rattle.oi_pdu.specs.Widths.{AreBelow}
 use Rattle.oi_text.specs.Pairs.{is_value_byte}
@@ -38,3 +39,11 @@ pub record IsSendable (config : LoginConfig) : Type 0 where
   pub isid : length config.isid ≡ 6
   pub offer : OfferFits config.offer
   pub auth : AuthFits config.auth
+
+abbrev pub IsTargetName : Option (List ℕ) → Type 0
+IsTargetName None = Unit {0}
+IsTargetName (Some target) = IsName target
+
+pub record HasNames (config : LoginConfig) : Type 0 where
+  pub initiator : IsName config.initiator
+  pub target : IsTargetName config.target

@@ -1,6 +1,7 @@
 ghost use Rattle.std.specs.Prelude.{◌≡◌, ◌++◌, OnOk, IfOk};
 ghost use Rattle.std.specs.Fmt.{decimal};
 ghost use Rattle.oi_text.specs.Pairs.{spelled, text_of};
+ghost use Rattle.oi_login.specs.Configs.{HasNames, IsTargetName};
 ghost use Rattle.oi_login.specs.Keys.{word_text, binary_text, session_type, target_keys, method_of, first_keys, flow_keys, time_keys, fixed_keys, session_keys, offer_keys};
 
 use crate::config::{LoginAuth, LoginConfig};
@@ -54,7 +55,8 @@ pub fn put_bytes(key: &[u8], bytes: &[u8], out: &mut Vec<u8>) -> Result<(), NoMe
 
 /// The text of the first request.
 pub fn first_text(alloc: Global, config: &LoginConfig) -> Result<Vec<u8>, NoMemory>
-    ensures { IfOk result (λ text. text.items ≡ text_of (first_keys config.now)) }
+    ensures text { IfOk result (λ text. text.items ≡ text_of (first_keys config.now)) }
+    ensures names { OnOk result (HasNames config.now) }
 {
     let mut out = Vec::new(alloc);
     put(b"InitiatorName", config.initiator.as_slice(), &mut out)?;
@@ -74,7 +76,8 @@ fn session_type(target: &Option<IscsiName>) -> &'static [u8]
 }
 
 fn put_target(target: &Option<IscsiName>, out: &mut Vec<u8>) -> Result<(), NoMemory>
-    ensures { OnOk result (out.new.items ≡ out.old.items ++ text_of (target_keys target.now)) }
+    ensures text { OnOk result (out.new.items ≡ out.old.items ++ text_of (target_keys target.now)) }
+    ensures name { OnOk result (IsTargetName target.now) }
 {
     match target {
         None => Ok(()),

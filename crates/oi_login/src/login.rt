@@ -49,6 +49,7 @@ impl Login {
         requires { IsValidConfig config }
         ensures login { IfOk result (λ r. r.0 ≡ state_at config (Some (opening config))) }
         ensures request { IfOk result (λ r. r.1 ≡ first_request config) }
+        ensures encodable { IfOk result (λ r. Encodable r.1) }
     {
         let transit = config.auth.is_none();
         let text = first_text(alloc, &config)?;
