@@ -85,9 +85,11 @@ exact : (c : LoginConfig) (p : Progress) (rs : List Pdu) (answers : List (Result
 exact c p [] [] new outcome is comes = (refl, at_end c p new outcome is comes)
 exact c p [] (a ∷ answers) new outcome all comes = absurd all
 exact c p (r ∷ rs) [] new outcome all comes = absurd all
-exact c p (r ∷ rs) (Ok (Send request) ∷ answers) new outcome (mid, (q, next, at, turns, is), all) comes =
-    (Asks next request, turned c p q r (Asks next request) at turns,
-    (sent_in answers, refl, exact c next rs answers new outcome (subst (λ (s : LoginState). AnswersAll s rs answers new) is all) comes))
+exact c p (r ∷ rs) (Ok (Send request) ∷ answers) new outcome (mid, (q, next, at, turns, is), all) comes = (
+  Asks next request,
+  turned c p q r (Asks next request) at turns,
+  (sent_in answers, refl, exact c next rs answers new outcome (subst (λ (s : LoginState). AnswersAll s rs answers new) is all) comes),
+)
 exact c p (r ∷ rs) (Ok (Finished done) ∷ answers) new outcome (mid, (q, at, turns, is), all) comes =
     (Reaches done, turned c p q r (Reaches done) at turns, (quiet c rs answers new (subst (λ (s : LoginState). AnswersAll s rs answers new) is all), comes))
 exact c p (r ∷ rs) (Err Over ∷ answers) new outcome (mid, (at, is), all) comes = absurd cc

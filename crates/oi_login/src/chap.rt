@@ -100,11 +100,7 @@ fn put_challenge(auth: &LoginAuth, out: &mut Vec<u8>) -> Result<(), NoMemory>
 }
 
 /// Whether the pairs of an answer show that the target is who it has to be. Without mutual CHAP it need not show it.
-pub fn is_proved(
-    alloc: Global,
-    auth: &Option<LoginAuth>,
-    pairs: &[Pair],
-) -> Result<bool, NoMemory>
+pub fn is_proved(alloc: Global, auth: &Option<LoginAuth>, pairs: &[Pair]) -> Result<bool, NoMemory>
     ensures { IfOk result (λ proved. MatchBool proved (IsProved auth.now pairs.now) (IsProved auth.now pairs.now → ⊥)) }
 {
     match auth {

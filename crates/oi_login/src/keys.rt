@@ -109,11 +109,7 @@ pub fn offer_text(alloc: Global, config: &LoginConfig) -> Result<Vec<u8>, NoMemo
     Ok(out)
 }
 
-fn put_session(
-    target: &Option<IscsiName>,
-    offer: &Offer,
-    out: &mut Vec<u8>,
-) -> Result<(), NoMemory>
+fn put_session(target: &Option<IscsiName>, offer: &Offer, out: &mut Vec<u8>) -> Result<(), NoMemory>
     ensures { OnOk result (out.new.items ≡ out.old.items ++ text_of (session_keys target.now offer.now)) }
 {
     match target {

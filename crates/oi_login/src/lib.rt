@@ -15,6 +15,8 @@ mod progress;
 mod redirection;
 mod refusals;
 mod request;
+#[cfg(test)]
+mod tests;
 mod turns;
 
 pub use config::{LoginAuth, LoginConfig};

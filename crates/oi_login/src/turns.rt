@@ -136,7 +136,13 @@ fn hear(
         let theirs = joined(progress.pairs, pairs)?;
         return settle(alloc, config, head, theirs.as_slice());
     }
-    let ask = next_ask(alloc, config, progress.stage, head.transit, pairs.as_slice())?;
+    let ask = next_ask(
+        alloc,
+        config,
+        progress.stage,
+        head.transit,
+        pairs.as_slice(),
+    )?;
     let turn = ask_with(alloc, config, progress, head, pairs, ask)?;
     Ok(turn)
 }

@@ -1,0 +1,605 @@
+use super::*;
+use oi_base::{Blob, Label, LoginDone, Mutual, Params};
+use oi_names::{IscsiName, Portal};
+use oi_negotiate::Offer;
+use oi_pdu::{Header, Pdu, read_pdu, write_pdu};
+use std::alloc::Global;
+use std::process::Abort;
+use std::test::Fail;
+
+const FIRST: &[u8] =
+    b"InitiatorName=iqn.2024-01.org.example:initiator\0SessionType=Normal\0TargetName=iqn.2024-01.org.example:d1\0AuthMethod=None\0";
+
+const OFFER: &[u8] =
+    b"InitialR2T=No\0ImmediateData=Yes\0MaxBurstLength=16776192\0FirstBurstLength=262144\0DefaultTime2Wait=2\0DefaultTime2Retain=0\0MaxOutstandingR2T=1\0MaxConnections=1\0ErrorRecoveryLevel=0\0DataPDUInOrder=Yes\0DataSequenceInOrder=Yes\0HeaderDigest=None\0DataDigest=None\0MaxRecvDataSegmentLength=262144\0";
+
+const NOTHING: &[u8] = b"";
+
+fn settings(alloc: Global, auth: Option<LoginAuth>) -> Result<LoginConfig, Fail> {
+    Ok(LoginConfig {
+        initiator: IscsiName::read(alloc, "iqn.2024-01.org.example:initiator")?,
+        target: Some(IscsiName::read(alloc, "iqn.2024-01.org.example:d1")?),
+        isid: [0x80, 0, 0, 0, 0, 1],
+        auth,
+        offer: Offer::standard(),
+    })
+}
+
+// A response with this byte 1, status class and detail, and StatSN; its MaxCmdSN is 32 and its TSIH 5.
+fn response(
+    alloc: Global,
+    flags: u8,
+    status: (u8, u8),
+    stat: u8,
+    text: &[u8],
+) -> Result<Pdu, Fail> {
+    let mut bytes = [0u8; 48];
+    bytes[0] = 0x23;
+    bytes[1] = flags;
+    bytes[15] = 5;
+    bytes[27] = stat;
+    bytes[31] = 1;
+    bytes[35] = 32;
+    bytes[36] = status.0;
+    bytes[37] = status.1;
+    Ok(Pdu {
+        head: read_pdu(&bytes)?,
+        payload: Blob::from_slice(alloc, text)?,
+    })
+}
+
+// The machine answers a response with a request that has this byte 1, ExpStatSN and text.
+fn sends(
+    rt: &impl Abort,
+    alloc: Global,
+    login: &mut Login,
+    response: &Pdu,
+    (flags, exp_stat): (u8, u8),
+    text: &[u8],
+) -> Result<(), Fail> {
+    let Ok(LoginStep::Send(request)) = login.next(response) else {
+        panic!(rt; "no request");
+    };
+    assert_eq!(rt; request.payload.as_slice(), text);
+    let mut bytes = Vec::new(alloc);
+    write_pdu(&request, &mut bytes)?;
+    assert!(rt; 48 <= bytes.len());
+    assert_eq!(rt; (bytes[0], bytes[1], bytes[31]), (0x43, flags, exp_stat));
+    Ok(())
+}
+
+fn fails(rt: &impl Abort, login: &mut Login, response: &Pdu, fault: LoginFault) {
+    assert_eq!(rt; login.next(response), Err(fault));
+    assert_eq!(rt; login.next(response), Err(LoginFault::Over));
+}
+
+#[test]
+fn first_login_request(rt: HostRuntime) -> Result<(), Fail> {
+    let a = rt.alloc();
+    let (_login, request) = Login::start(a, settings(a, None)?)?;
+    let mut bytes = Vec::new(a);
+    write_pdu(&request, &mut bytes)?;
+    assert_eq!(rt; bytes.len(), 172);
+    let header = [
+        0x43, 0x81, 0, 0, 0, 0, 0, 0x79, 0x80, 0, 0, 0, 0, 1, 0, 0, 0, 0, 0, 0, 0, 0, 0, 0, 0, 0,
+        0, 1, 0, 0, 0, 0, 0, 0, 0, 0, 0, 0, 0, 0, 0, 0, 0, 0, 0, 0, 0, 0,
+    ];
+    assert_eq!(rt; &bytes.as_slice()[..48], header.as_slice());
+    assert_eq!(rt; &bytes.as_slice()[48..169], FIRST);
+    assert_eq!(rt; &bytes.as_slice()[169..], [0, 0, 0].as_slice());
+    Ok(())
+}
+
+// A login of which the security stage is through.
+fn offered(rt: &impl Abort, a: Global) -> Result<Login, Fail> {
+    let (mut login, _) = Login::start(a, settings(a, None)?)?;
+    sends(
+        rt,
+        a,
+        &mut login,
+        &response(a, 0x81, (0, 0), 7, NOTHING)?,
+        (0x87, 8),
+        OFFER,
+    )?;
+    Ok(login)
+}
+
+#[test]
+fn login_reaches_full_feature_phase(rt: HostRuntime) -> Result<(), Fail> {
+    let a = rt.alloc();
+    let mut login = offered(&rt, a)?;
+    let text = b"InitialR2T=No\0MaxRecvDataSegmentLength=65536\0";
+    let last = response(a, 0x87, (0, 0), 8, text)?;
+    let done = LoginDone {
+        params: Params {
+            initial_r2t: false,
+            immediate: true,
+            max_send: 65_536,
+            max_recv: 262_144,
+            max_burst: 262_144,
+            first_burst: 65_536,
+            outstanding: 1,
+            time2wait: 2,
+            time2retain: 20,
+        },
+        tsih: 5,
+        cmdsn: 1,
+        max: 32,
+        exp_stat: 9,
+    };
+    assert_eq!(rt; login.next(&last), Ok(LoginStep::Done(done)));
+    assert_eq!(rt; login.next(&last), Err(LoginFault::Over));
+    Ok(())
+}
+
+#[test]
+fn refused_logins(rt: HostRuntime) -> Result<(), Fail> {
+    let a = rt.alloc();
+    let mut login = offered(&rt, a)?;
+    let key = Label::from_slice(a, b"HeaderDigest")?;
+    fails(
+        &rt,
+        &mut login,
+        &response(a, 0x87, (0, 0), 8, b"InitialR2T=No\0HeaderDigest=CRC32C\0")?,
+        LoginFault::Key { key },
+    );
+    let mut login = offered(&rt, a)?;
+    let status = LoginFault::Status {
+        class: 2,
+        detail: 3,
+    };
+    fails(
+        &rt,
+        &mut login,
+        &response(a, 0x87, (2, 3), 8, NOTHING)?,
+        status,
+    );
+    let mut login = offered(&rt, a)?;
+    let key = Label::new(a);
+    fails(
+        &rt,
+        &mut login,
+        &response(a, 0x87, (0, 0), 8, b"InitialR2T=No")?,
+        LoginFault::Key { key },
+    );
+    let mut login = offered(&rt, a)?;
+    fails(
+        &rt,
+        &mut login,
+        &response(a, 0x81, (0, 0), 8, NOTHING)?,
+        LoginFault::WrongStage,
+    );
+    Ok(())
+}
+
+// The digest of the alphabet (RFC 1321): of `a`, `bcdefghijklm` and `nopqrstuvwxyz` for this initiator, and of `a`, `bcdefghij`
+// and `klmnopqrstuvwxyz` for the target.
+fn alice(a: Global, both: bool) -> Result<LoginAuth, Fail> {
+    let mutual = if both {
+        Some(Mutual {
+            user: Label::from_slice(a, b"bob")?,
+            secret: Blob::from_slice(a, b"bcdefghij")?,
+        })
+    } else {
+        None
+    };
+    Ok(LoginAuth {
+        user: Label::from_slice(a, b"alice")?,
+        secret: Blob::from_slice(a, b"bcdefghijklm")?,
+        mutual,
+        id: 0x61,
+        challenge: *b"klmnopqrstuvwxyz",
+    })
+}
+
+const CHALLENGE: &[u8] = b"CHAP_A=5\0CHAP_I=97\0CHAP_C=0x6e6f707172737475767778797a\0";
+
+const RESPONSE: &[u8] = b"CHAP_N=alice\0CHAP_R=0xc3fcd3d76192e4007dfb496cca67e13b\0";
+
+const BOTH: &[u8] =
+    b"CHAP_N=alice\0CHAP_R=0xc3fcd3d76192e4007dfb496cca67e13b\0CHAP_I=97\0CHAP_C=0x6b6c6d6e6f707172737475767778797a\0";
+
+// A login whose first request offers CHAP.
+fn opened(rt: &impl Abort, a: Global, both: bool) -> Result<Login, Fail> {
+    let config = settings(a, Some(alice(a, both)?))?;
+    let (login, request) = Login::start(a, config)?;
+    let Header::LoginRequest(head) = request.head else {
+        panic!(rt; "no Login Request");
+    };
+    assert_eq!(rt; (head.transit, head.csg, head.nsg), (false, 0, 0));
+    assert!(rt; request.payload.as_slice().ends_with(b"AuthMethod=CHAP\0"));
+    Ok(login)
+}
+
+// A login that waits for the target's challenge.
+fn named(rt: &impl Abort, a: Global, both: bool) -> Result<Login, Fail> {
+    let mut login = opened(rt, a, both)?;
+    let answer = response(a, 0, (0, 0), 1, b"AuthMethod=CHAP\0")?;
+    sends(rt, a, &mut login, &answer, (0, 2), b"CHAP_A=5\0")?;
+    Ok(login)
+}
+
+// A login with mutual CHAP that waits for the target's response.
+fn challenged(rt: &impl Abort, a: Global) -> Result<Login, Fail> {
+    let mut login = named(rt, a, true)?;
+    let answer = response(a, 0, (0, 0), 2, CHALLENGE)?;
+    sends(rt, a, &mut login, &answer, (0x81, 3), BOTH)?;
+    Ok(login)
+}
+
+fn opening_fails(
+    rt: &impl Abort,
+    a: Global,
+    flags: u8,
+    text: &[u8],
+    fault: LoginFault,
+) -> Result<(), Fail> {
+    let mut login = opened(rt, a, false)?;
+    fails(rt, &mut login, &response(a, flags, (0, 0), 1, text)?, fault);
+    Ok(())
+}
+
+fn challenge_fails(rt: &impl Abort, a: Global, text: &[u8]) -> Result<(), Fail> {
+    let mut login = named(rt, a, false)?;
+    fails(
+        rt,
+        &mut login,
+        &response(a, 0, (0, 0), 2, text)?,
+        LoginFault::Auth,
+    );
+    Ok(())
+}
+
+fn challenge_passes(rt: &impl Abort, a: Global, text: &[u8]) -> Result<(), Fail> {
+    let mut login = named(rt, a, false)?;
+    sends(
+        rt,
+        a,
+        &mut login,
+        &response(a, 0, (0, 0), 2, text)?,
+        (0x81, 3),
+        RESPONSE,
+    )?;
+    sends(
+        rt,
+        a,
+        &mut login,
+        &response(a, 0x81, (0, 0), 3, NOTHING)?,
+        (0x87, 4),
+        OFFER,
+    )
+}
+
+fn proof_fails(rt: &impl Abort, a: Global, text: &[u8]) -> Result<(), Fail> {
+    let mut login = challenged(rt, a)?;
+    fails(
+        rt,
+        &mut login,
+        &response(a, 0x81, (0, 0), 3, text)?,
+        LoginFault::Auth,
+    );
+    Ok(())
+}
+
+fn proof_passes(rt: &impl Abort, a: Global, text: &[u8]) -> Result<(), Fail> {
+    let mut login = challenged(rt, a)?;
+    sends(
+        rt,
+        a,
+        &mut login,
+        &response(a, 0x81, (0, 0), 3, text)?,
+        (0x87, 4),
+        OFFER,
+    )
+}
+
+#[test]
+fn chap_refusals_and_forms(rt: HostRuntime) -> Result<(), Fail> {
+    let a = rt.alloc();
+    opening_fails(&rt, a, 0, b"AuthMethod=None\0", LoginFault::Auth)?;
+    opening_fails(&rt, a, 0, NOTHING, LoginFault::Auth)?;
+    opening_fails(
+        &rt,
+        a,
+        0,
+        b"AuthMethod=CHAP\0AuthMethod=CHAP\0",
+        LoginFault::Auth,
+    )?;
+    opening_fails(&rt, a, 0x81, b"AuthMethod=CHAP\0", LoginFault::WrongStage)?;
+    challenge_fails(&rt, a, b"CHAP_A=7\0CHAP_I=97\0CHAP_C=0x6e\0")?;
+    challenge_fails(&rt, a, b"CHAP_A=5\0CHAP_I=256\0CHAP_C=0x6e\0")?;
+    challenge_fails(&rt, a, b"CHAP_A=5\0CHAP_I=97\0CHAP_C=0x\0")?;
+    challenge_fails(&rt, a, b"CHAP_A=5\0CHAP_I=97\0CHAP_C=0x6e\0CHAP_I=97\0")?;
+    challenge_passes(&rt, a, CHALLENGE)?;
+    challenge_passes(
+        &rt,
+        a,
+        b"CHAP_A=0x5\0CHAP_I=0x61\0CHAP_C=0bbm9wcXJzdHV2d3h5eg==\0",
+    )?;
+    proof_fails(
+        &rt,
+        a,
+        b"CHAP_N=bob\0CHAP_R=0xc3fcd3d76192e4007dfb496cca67e13c\0",
+    )?;
+    proof_fails(&rt, a, b"CHAP_R=0xc3fcd3d76192e4007dfb496cca67e13b\0")?;
+    proof_fails(
+        &rt,
+        a,
+        b"CHAP_N=bobo\0CHAP_R=0xc3fcd3d76192e4007dfb496cca67e13b\0",
+    )?;
+    proof_passes(
+        &rt,
+        a,
+        b"CHAP_N=bob\0CHAP_R=0xC3FCD3D76192E4007DFB496CCA67E13B\0",
+    )?;
+    proof_passes(&rt, a, b"CHAP_N=bob\0CHAP_R=0bw/zT12GS5AB9+0lsymfhOw==\0")
+}
+
+// A refused name or secret, and CHAP where it was not offered.
+#[test]
+fn other_refusals(rt: HostRuntime) -> Result<(), Fail> {
+    let a = rt.alloc();
+    let mut login = named(&rt, a, false)?;
+    let status = LoginFault::Status {
+        class: 2,
+        detail: 1,
+    };
+    fails(
+        &rt,
+        &mut login,
+        &response(a, 0, (2, 1), 2, NOTHING)?,
+        status,
+    );
+    let (mut login, _) = Login::start(a, settings(a, None)?)?;
+    fails(
+        &rt,
+        &mut login,
+        &response(a, 0x81, (0, 0), 1, b"AuthMethod=CHAP\0")?,
+        LoginFault::Auth,
+    );
+    let (mut login, request) = Login::start(a, settings(a, None)?)?;
+    fails(&rt, &mut login, &request, LoginFault::WrongStage);
+    Ok(())
+}
+
+// The text of three responses, of which the first two have the C bit, and the first one the T bit too.
+#[test]
+fn joined_text(rt: HostRuntime) -> Result<(), Fail> {
+    let a = rt.alloc();
+    let mut login = offered(&rt, a)?;
+    sends(
+        &rt,
+        a,
+        &mut login,
+        &response(a, 0xc7, (0, 0), 8, b"Initial")?,
+        (0x04, 9),
+        NOTHING,
+    )?;
+    sends(
+        &rt,
+        a,
+        &mut login,
+        &response(a, 0x44, (0, 0), 9, b"R2T=No\0MaxBurst")?,
+        (0x04, 10),
+        NOTHING,
+    )?;
+    sends(
+        &rt,
+        a,
+        &mut login,
+        &response(a, 0x04, (0, 0), 10, b"Length=512\0")?,
+        (0x87, 11),
+        NOTHING,
+    )?;
+    let Ok(LoginStep::Done(done)) = login.next(&response(a, 0x87, (0, 0), 11, NOTHING)?) else {
+        panic!(rt; "not done");
+    };
+    assert_eq!(rt;
+        (done.params.initial_r2t, done.params.max_burst),
+        (false, 512)
+    );
+    Ok(())
+}
+
+// Takes so many empty responses, each of which is answered by an empty request.
+fn idles(rt: &impl Abort, a: Global, login: &mut Login, count: u8) -> Result<(), Fail> {
+    let empty = response(a, 0, (0, 0), 1, NOTHING)?;
+    for _ in 0..count {
+        sends(rt, a, login, &empty, (0x81, 2), NOTHING)?;
+    }
+    Ok(())
+}
+
+#[test]
+fn thirty_two_turns(rt: HostRuntime) -> Result<(), Fail> {
+    let a = rt.alloc();
+    let (mut login, _) = Login::start(a, settings(a, None)?)?;
+    idles(&rt, a, &mut login, 31)?;
+    fails(
+        &rt,
+        &mut login,
+        &response(a, 0, (0, 0), 1, NOTHING)?,
+        LoginFault::TooManyTurns,
+    );
+    let (mut login, _) = Login::start(a, settings(a, None)?)?;
+    idles(&rt, a, &mut login, 31)?;
+    fails(
+        &rt,
+        &mut login,
+        &response(a, 0x40, (0, 0), 1, NOTHING)?,
+        LoginFault::TooManyTurns,
+    );
+    let (mut login, _) = Login::start(a, settings(a, None)?)?;
+    idles(&rt, a, &mut login, 30)?;
+    sends(
+        &rt,
+        a,
+        &mut login,
+        &response(a, 0x81, (0, 0), 1, NOTHING)?,
+        (0x87, 2),
+        OFFER,
+    )?;
+    assert!(rt; login.next(&response(a, 0x87, (0, 0), 2, NOTHING)?).is_ok());
+    Ok(())
+}
+
+// Pairs of 4,096 bytes each, and some bytes of one more.
+fn long_text(a: Global, pairs: u8, more: u8) -> Result<Vec<u8>, Fail> {
+    let mut text = Vec::new(a);
+    for _ in 0..pairs {
+        text.extend_from_slice(b"CHAP_N=")?;
+        for _ in 0..4088 {
+            text.push(b'n')?;
+        }
+        text.push(0)?;
+    }
+    for _ in 0..more {
+        text.push(b'n')?;
+    }
+    Ok(text)
+}
+
+#[test]
+fn text_of_65536_bytes(rt: HostRuntime) -> Result<(), Fail> {
+    let a = rt.alloc();
+    let (mut login, _) = Login::start(a, settings(a, None)?)?;
+    let whole = response(a, 0, (0, 0), 1, &long_text(a, 16, 0)?)?;
+    sends(&rt, a, &mut login, &whole, (0x81, 2), NOTHING)?;
+    let long = response(a, 0, (0, 0), 1, &long_text(a, 16, 1)?)?;
+    fails(&rt, &mut login, &long, LoginFault::TooManyTurns);
+    let (mut login, _) = Login::start(a, settings(a, None)?)?;
+    let part = response(a, 0x40, (0, 0), 1, &long_text(a, 16, 0)?)?;
+    sends(&rt, a, &mut login, &part, (0, 2), NOTHING)?;
+    fails(
+        &rt,
+        &mut login,
+        &response(a, 0x40, (0, 0), 2, b"n")?,
+        LoginFault::TooManyTurns,
+    );
+    Ok(())
+}
+
+fn moves(rt: &impl Abort, a: Global, text: &[u8], address: &[u8], port: u16) -> Result<(), Fail> {
+    let (mut login, _) = Login::start(a, settings(a, None)?)?;
+    let address = Label::from_slice(a, address)?;
+    let portal = Portal { address, port };
+    fails(
+        rt,
+        &mut login,
+        &response(a, 0, (1, 2), 1, text)?,
+        LoginFault::Moved { portal },
+    );
+    Ok(())
+}
+
+fn stays(rt: &impl Abort, a: Global, text: &[u8]) -> Result<(), Fail> {
+    let (mut login, _) = Login::start(a, settings(a, None)?)?;
+    let status = LoginFault::Status {
+        class: 1,
+        detail: 2,
+    };
+    fails(rt, &mut login, &response(a, 0, (1, 2), 1, text)?, status);
+    Ok(())
+}
+
+#[test]
+fn redirections(rt: HostRuntime) -> Result<(), Fail> {
+    let a = rt.alloc();
+    moves(
+        &rt,
+        a,
+        b"TargetAddress=127.0.0.1:3261,1\0",
+        b"127.0.0.1",
+        3261,
+    )?;
+    moves(
+        &rt,
+        a,
+        b"TargetAlias=t\0TargetAddress=[FE80::1]\0TargetAddress=?\0",
+        b"[fe80::1]",
+        3260,
+    )?;
+    stays(&rt, a, NOTHING)?;
+    stays(&rt, a, b"TargetAddress=127.0.0.1:3261")?;
+    stays(
+        &rt,
+        a,
+        b"TargetAddress=host:3261\0TargetAddress=127.0.0.1:3261\0",
+    )?;
+    let (mut login, _) = Login::start(a, settings(a, None)?)?;
+    sends(
+        &rt,
+        a,
+        &mut login,
+        &response(a, 0x40, (0, 0), 1, b"TargetAddr")?,
+        (0, 2),
+        NOTHING,
+    )?;
+    let portal = Portal {
+        address: Label::from_slice(a, b"10.0.0.1")?,
+        port: 7,
+    };
+    fails(
+        &rt,
+        &mut login,
+        &response(a, 0x87, (1, 1), 2, b"ess=10.0.0.1:7\0")?,
+        LoginFault::Moved { portal },
+    );
+    Ok(())
+}
+
+#[test]
+fn keys_not_understood(rt: HostRuntime) -> Result<(), Fail> {
+    let a = rt.alloc();
+    let (mut login, _) = Login::start(a, settings(a, None)?)?;
+    let text = b"X-a=1\0TargetAlias=t\0Y=\0X-a=1\0TargetPortalGroupTag=1\0";
+    let answers = b"X-a=NotUnderstood\0Y=NotUnderstood\0X-a=NotUnderstood\0";
+    sends(
+        &rt,
+        a,
+        &mut login,
+        &response(a, 0, (0, 0), 1, text)?,
+        (0x81, 2),
+        answers,
+    )?;
+    let mut both = OFFER.to_vec(a)?;
+    both.extend_from_slice(b"x=NotUnderstood\0")?;
+    sends(
+        &rt,
+        a,
+        &mut login,
+        &response(a, 0x81, (0, 0), 2, b"x=y\0")?,
+        (0x87, 3),
+        &both,
+    )?;
+    sends(
+        &rt,
+        a,
+        &mut login,
+        &response(a, 0x04, (0, 0), 3, NOTHING)?,
+        (0x87, 4),
+        NOTHING,
+    )
+}
+
+#[test]
+fn discovery_login(rt: HostRuntime) -> Result<(), Fail> {
+    let a = rt.alloc();
+    let mut config = settings(a, None)?;
+    config.target = None;
+    config.isid = [0x80, 0, 0, 0, 0, 0];
+    let config = config.copy(a)?;
+    let (mut login, request) = Login::start(a, config)?;
+    let first =
+        b"InitiatorName=iqn.2024-01.org.example:initiator\0SessionType=Discovery\0AuthMethod=None\0";
+    assert_eq!(rt; request.payload.as_slice(), first.as_slice());
+    let offer = b"HeaderDigest=None\0DataDigest=None\0MaxRecvDataSegmentLength=262144\0";
+    sends(
+        &rt,
+        a,
+        &mut login,
+        &response(a, 0x81, (0, 0), 1, b"AuthMethod=None\0")?,
+        (0x87, 2),
+        offer,
+    )
+}
