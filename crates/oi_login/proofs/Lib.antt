@@ -1,5 +1,6 @@
 pub mod Encoded
 pub mod Exchanging
+pub mod Journeys
 pub mod Readings
 pub mod Refused
 pub mod Shown

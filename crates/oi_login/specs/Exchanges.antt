@@ -51,6 +51,9 @@ pub record Hop : Type 0 where
   pub responses : List Pdu
   pub requests : List Pdu
 
+abbrev pub hop_of : Portal → List Pdu → List Pdu → Hop
+hop_of portal responses requests = record { portal = portal; responses = responses; requests = requests }
+
 -- a discovery does not follow a redirection, a session follows four
 abbrev pub most_hops : Option (List ℕ) → ℕ
 most_hops None = 1

@@ -1,8 +1,9 @@
-ghost use Rattle.std.specs.Prelude.{◌≡◌, ◌++◌, ◌∷◌, [], Some, None, List, Result, Option};
+ghost use Rattle.std.specs.Prelude.{◌≡◌, ◌≤◌, ◌++◌, length, ◌∷◌, [], Some, None, List, Result, Option};
 ghost use Rattle.oi_base.specs.declared.login.LoginDone.{LoginDone};
 ghost use Rattle.oi_base.specs.declared.login.Mutual.{Mutual};
+ghost use Rattle.oi_names.specs.declared.portal.Portal.{Portal};
 ghost use Rattle.oi_pdu.specs.declared.codec.Pdu.{Pdu};
-ghost use Rattle.oi_login.specs.Exchanges.{AnswersAll, ComesTo, LoginExchange, Outcome, Going, Done, Failed, sent_in};
+ghost use Rattle.oi_login.specs.Exchanges.{AnswersAll, ComesTo, Hop, LoginExchange, LoginJourney, Outcome, Going, Done, Failed, hop_of, onward, sent_in};
 ghost use Rattle.oi_login.specs.Mutual.{ShowsItself};
 ghost use Rattle.oi_login.specs.States.{LoginState, first_request, opening, state_at};
 ghost use Rattle.oi_login.specs.Turns.{Turns};
@@ -40,4 +41,19 @@ pub fn target_shows_itself()
     ensures { (c : LoginConfig) (auth : LoginAuth) (wanted : Mutual) (responses requests : List Pdu) (done : LoginDone)
         → c.auth ≡ Some auth → auth.mutual ≡ Some wanted → LoginExchange c responses requests (Done done)
         → ShowsItself auth wanted requests responses }
+{}
+
+/// How a login journey grows: it begins as one exchange, its last exchange may go on, and where it goes on to another portal the
+/// exchange there is a further hop. It has one to five hops. The function does nothing.
+pub fn login_journeys_grow()
+    ensures first { (c : LoginConfig) (from : Portal) (responses requests : List Pdu) (outcome : Outcome)
+        → LoginExchange c responses requests outcome → LoginJourney c from (hop_of from responses requests ∷ []) outcome }
+    ensures last { (c : LoginConfig) (from : Portal) (hops : List Hop) (hop : Hop) (responses requests : List Pdu) (before after : Outcome)
+        → LoginJourney c from (hops ++ hop ∷ []) before → LoginExchange c responses requests after
+        → LoginJourney c from (hops ++ hop_of hop.portal responses requests ∷ []) after }
+    ensures further { (c : LoginConfig) (from next : Portal) (hops : List Hop) (responses requests : List Pdu) (before after : Outcome)
+        → LoginJourney c from hops before → onward c hops before ≡ Some next → LoginExchange c responses requests after
+        → LoginJourney c from (hops ++ hop_of next responses requests ∷ []) after }
+    ensures bounds { (c : LoginConfig) (from : Portal) (hops : List Hop) (outcome : Outcome)
+        → LoginJourney c from hops outcome → (1 ≤ length hops) × (length hops ≤ 5) }
 {}

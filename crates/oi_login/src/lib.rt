@@ -21,5 +21,5 @@ mod turns;
 
 pub use config::{LoginAuth, LoginConfig};
 pub use fault::LoginFault;
-pub use laws::{login_exact, target_shows_itself};
+pub use laws::{login_exact, login_journeys_grow, target_shows_itself};
 pub use login::{Login, LoginStep};

@@ -1,3 +1,6 @@
+ghost use Rattle.std.specs.Prelude.{◌≡◌, IfOk, Some};
+ghost use Rattle.oi_login.specs.Configs.{IsValidAuth, IsValidMutual};
+
 use super::*;
 use oi_base::{Blob, Label, LoginDone, Mutual, Params};
 use oi_names::{IscsiName, Portal};
@@ -15,7 +18,9 @@ const OFFER: &[u8] =
 
 const NOTHING: &[u8] = b"";
 
-fn settings(alloc: Global, auth: Option<LoginAuth>) -> Result<LoginConfig, Fail> {
+fn settings(alloc: Global, auth: Option<LoginAuth>) -> Result<LoginConfig, Fail>
+    ensures { IfOk result (λ c. c.auth ≡ auth) }
+{
     Ok(LoginConfig {
         initiator: IscsiName::read(alloc, "iqn.2024-01.org.example:initiator")?,
         target: Some(IscsiName::read(alloc, "iqn.2024-01.org.example:d1")?),
@@ -73,6 +78,13 @@ fn fails(rt: &impl Abort, login: &mut Login, response: &Pdu, fault: LoginFault) 
     assert_eq!(rt; login.next(response), Err(LoginFault::Over));
 }
 
+// A login without authentication whose first request was sent.
+fn begun(a: Global) -> Result<Login, Fail> {
+    let config = settings(a, None)?;
+    let (login, _) = Login::start(a, config)?;
+    Ok(login)
+}
+
 #[test]
 fn first_login_request(rt: HostRuntime) -> Result<(), Fail> {
     let a = rt.alloc();
@@ -92,7 +104,7 @@ fn first_login_request(rt: HostRuntime) -> Result<(), Fail> {
 
 // A login of which the security stage is through.
 fn offered(rt: &impl Abort, a: Global) -> Result<Login, Fail> {
-    let (mut login, _) = Login::start(a, settings(a, None)?)?;
+    let mut login = begun(a)?;
     sends(
         rt,
         a,
@@ -132,64 +144,67 @@ fn login_reaches_full_feature_phase(rt: HostRuntime) -> Result<(), Fail> {
     Ok(())
 }
 
+// A login that made its offer fails with this fault.
+fn offer_fails(
+    rt: &impl Abort,
+    a: Global,
+    flags: u8,
+    status: (u8, u8),
+    text: &[u8],
+    fault: LoginFault,
+) -> Result<(), Fail> {
+    let mut login = offered(rt, a)?;
+    let refused = response(a, flags, status, 8, text)?;
+    fails(rt, &mut login, &refused, fault);
+    Ok(())
+}
+
 #[test]
 fn refused_logins(rt: HostRuntime) -> Result<(), Fail> {
     let a = rt.alloc();
-    let mut login = offered(&rt, a)?;
     let key = Label::from_slice(a, b"HeaderDigest")?;
-    fails(
-        &rt,
-        &mut login,
-        &response(a, 0x87, (0, 0), 8, b"InitialR2T=No\0HeaderDigest=CRC32C\0")?,
-        LoginFault::Key { key },
-    );
-    let mut login = offered(&rt, a)?;
+    let text = b"InitialR2T=No\0HeaderDigest=CRC32C\0";
+    offer_fails(&rt, a, 0x87, (0, 0), text, LoginFault::Key { key })?;
     let status = LoginFault::Status {
         class: 2,
         detail: 3,
     };
-    fails(
-        &rt,
-        &mut login,
-        &response(a, 0x87, (2, 3), 8, NOTHING)?,
-        status,
-    );
-    let mut login = offered(&rt, a)?;
+    offer_fails(&rt, a, 0x87, (2, 3), NOTHING, status)?;
     let key = Label::new(a);
-    fails(
+    offer_fails(
         &rt,
-        &mut login,
-        &response(a, 0x87, (0, 0), 8, b"InitialR2T=No")?,
+        a,
+        0x87,
+        (0, 0),
+        b"InitialR2T=No",
         LoginFault::Key { key },
-    );
-    let mut login = offered(&rt, a)?;
-    fails(
-        &rt,
-        &mut login,
-        &response(a, 0x81, (0, 0), 8, NOTHING)?,
-        LoginFault::WrongStage,
-    );
-    Ok(())
+    )?;
+    offer_fails(&rt, a, 0x81, (0, 0), NOTHING, LoginFault::WrongStage)?;
+    offer_fails(&rt, a, 0x85, (0, 0), NOTHING, LoginFault::WrongStage)
 }
 
 // The digest of the alphabet (RFC 1321): of `a`, `bcdefghijklm` and `nopqrstuvwxyz` for this initiator, and of `a`, `bcdefghij`
 // and `klmnopqrstuvwxyz` for the target.
-fn alice(a: Global, both: bool) -> Result<LoginAuth, Fail> {
-    let mutual = if both {
-        Some(Mutual {
-            user: Label::from_slice(a, b"bob")?,
-            secret: Blob::from_slice(a, b"bcdefghij")?,
-        })
-    } else {
-        None
-    };
-    Ok(LoginAuth {
+fn alice(a: Global, wanted: Option<Mutual>) -> Result<Option<LoginAuth>, Fail>
+    requires { IsValidMutual wanted }
+    ensures { IfOk result (λ auth. IsValidAuth auth) }
+{
+    Ok(Some(LoginAuth {
         user: Label::from_slice(a, b"alice")?,
         secret: Blob::from_slice(a, b"bcdefghijklm")?,
-        mutual,
+        mutual: wanted,
         id: 0x61,
         challenge: *b"klmnopqrstuvwxyz",
-    })
+    }))
+}
+
+fn bob(a: Global) -> Result<Option<Mutual>, Fail>
+    ensures { IfOk result (λ m. IsValidMutual m) }
+{
+    Ok(Some(Mutual {
+        user: Label::from_slice(a, b"bob")?,
+        secret: Blob::from_slice(a, b"bcdefghij")?,
+    }))
 }
 
 const CHALLENGE: &[u8] = b"CHAP_A=5\0CHAP_I=97\0CHAP_C=0x6e6f707172737475767778797a\0";
@@ -200,8 +215,11 @@ const BOTH: &[u8] =
     b"CHAP_N=alice\0CHAP_R=0xc3fcd3d76192e4007dfb496cca67e13b\0CHAP_I=97\0CHAP_C=0x6b6c6d6e6f707172737475767778797a\0";
 
 // A login whose first request offers CHAP.
-fn opened(rt: &impl Abort, a: Global, both: bool) -> Result<Login, Fail> {
-    let config = settings(a, Some(alice(a, both)?))?;
+fn opened(rt: &impl Abort, a: Global, wanted: Option<Mutual>) -> Result<Login, Fail>
+    requires { IsValidMutual wanted }
+{
+    let auth = alice(a, wanted)?;
+    let config = settings(a, auth)?;
     let (login, request) = Login::start(a, config)?;
     let Header::LoginRequest(head) = request.head else {
         panic!(rt; "no Login Request");
@@ -212,8 +230,10 @@ fn opened(rt: &impl Abort, a: Global, both: bool) -> Result<Login, Fail> {
 }
 
 // A login that waits for the target's challenge.
-fn named(rt: &impl Abort, a: Global, both: bool) -> Result<Login, Fail> {
-    let mut login = opened(rt, a, both)?;
+fn named(rt: &impl Abort, a: Global, wanted: Option<Mutual>) -> Result<Login, Fail>
+    requires { IsValidMutual wanted }
+{
+    let mut login = opened(rt, a, wanted)?;
     let answer = response(a, 0, (0, 0), 1, b"AuthMethod=CHAP\0")?;
     sends(rt, a, &mut login, &answer, (0, 2), b"CHAP_A=5\0")?;
     Ok(login)
@@ -221,7 +241,8 @@ fn named(rt: &impl Abort, a: Global, both: bool) -> Result<Login, Fail> {
 
 // A login with mutual CHAP that waits for the target's response.
 fn challenged(rt: &impl Abort, a: Global) -> Result<Login, Fail> {
-    let mut login = named(rt, a, true)?;
+    let wanted = bob(a)?;
+    let mut login = named(rt, a, wanted)?;
     let answer = response(a, 0, (0, 0), 2, CHALLENGE)?;
     sends(rt, a, &mut login, &answer, (0x81, 3), BOTH)?;
     Ok(login)
@@ -234,13 +255,13 @@ fn opening_fails(
     text: &[u8],
     fault: LoginFault,
 ) -> Result<(), Fail> {
-    let mut login = opened(rt, a, false)?;
+    let mut login = opened(rt, a, None)?;
     fails(rt, &mut login, &response(a, flags, (0, 0), 1, text)?, fault);
     Ok(())
 }
 
 fn challenge_fails(rt: &impl Abort, a: Global, text: &[u8]) -> Result<(), Fail> {
-    let mut login = named(rt, a, false)?;
+    let mut login = named(rt, a, None)?;
     fails(
         rt,
         &mut login,
@@ -251,7 +272,7 @@ fn challenge_fails(rt: &impl Abort, a: Global, text: &[u8]) -> Result<(), Fail> 
 }
 
 fn challenge_passes(rt: &impl Abort, a: Global, text: &[u8]) -> Result<(), Fail> {
-    let mut login = named(rt, a, false)?;
+    let mut login = named(rt, a, None)?;
     sends(
         rt,
         a,
@@ -296,26 +317,28 @@ fn proof_passes(rt: &impl Abort, a: Global, text: &[u8]) -> Result<(), Fail> {
 #[test]
 fn chap_refusals_and_forms(rt: HostRuntime) -> Result<(), Fail> {
     let a = rt.alloc();
-    opening_fails(&rt, a, 0, b"AuthMethod=None\0", LoginFault::Auth)?;
-    opening_fails(&rt, a, 0, NOTHING, LoginFault::Auth)?;
-    opening_fails(
-        &rt,
-        a,
-        0,
-        b"AuthMethod=CHAP\0AuthMethod=CHAP\0",
-        LoginFault::Auth,
-    )?;
-    opening_fails(&rt, a, 0x81, b"AuthMethod=CHAP\0", LoginFault::WrongStage)?;
     challenge_fails(&rt, a, b"CHAP_A=7\0CHAP_I=97\0CHAP_C=0x6e\0")?;
     challenge_fails(&rt, a, b"CHAP_A=5\0CHAP_I=256\0CHAP_C=0x6e\0")?;
     challenge_fails(&rt, a, b"CHAP_A=5\0CHAP_I=97\0CHAP_C=0x\0")?;
     challenge_fails(&rt, a, b"CHAP_A=5\0CHAP_I=97\0CHAP_C=0x6e\0CHAP_I=97\0")?;
     challenge_passes(&rt, a, CHALLENGE)?;
-    challenge_passes(
-        &rt,
-        a,
-        b"CHAP_A=0x5\0CHAP_I=0x61\0CHAP_C=0bbm9wcXJzdHV2d3h5eg==\0",
-    )?;
+    let forms = b"CHAP_A=0x5\0CHAP_I=0x61\0CHAP_C=0bbm9wcXJzdHV2d3h5eg==\0";
+    challenge_passes(&rt, a, forms)
+}
+
+#[test]
+fn offers_of_chap(rt: HostRuntime) -> Result<(), Fail> {
+    let a = rt.alloc();
+    opening_fails(&rt, a, 0, b"AuthMethod=None\0", LoginFault::Auth)?;
+    opening_fails(&rt, a, 0, NOTHING, LoginFault::Auth)?;
+    let twice = b"AuthMethod=CHAP\0AuthMethod=CHAP\0";
+    opening_fails(&rt, a, 0, twice, LoginFault::Auth)?;
+    opening_fails(&rt, a, 0x81, b"AuthMethod=CHAP\0", LoginFault::WrongStage)
+}
+
+#[test]
+fn responses_of_the_target(rt: HostRuntime) -> Result<(), Fail> {
+    let a = rt.alloc();
     proof_fails(
         &rt,
         a,
@@ -335,28 +358,20 @@ fn chap_refusals_and_forms(rt: HostRuntime) -> Result<(), Fail> {
     proof_passes(&rt, a, b"CHAP_N=bob\0CHAP_R=0bw/zT12GS5AB9+0lsymfhOw==\0")
 }
 
-// A refused name or secret, and CHAP where it was not offered.
+// A secret that the target refuses, CHAP where it was not offered, and a PDU that is no Login Response.
 #[test]
 fn other_refusals(rt: HostRuntime) -> Result<(), Fail> {
     let a = rt.alloc();
-    let mut login = named(&rt, a, false)?;
+    let mut login = named(&rt, a, None)?;
     let status = LoginFault::Status {
         class: 2,
         detail: 1,
     };
-    fails(
-        &rt,
-        &mut login,
-        &response(a, 0, (2, 1), 2, NOTHING)?,
-        status,
-    );
-    let (mut login, _) = Login::start(a, settings(a, None)?)?;
-    fails(
-        &rt,
-        &mut login,
-        &response(a, 0x81, (0, 0), 1, b"AuthMethod=CHAP\0")?,
-        LoginFault::Auth,
-    );
+    let refused = response(a, 0, (2, 1), 2, NOTHING)?;
+    fails(&rt, &mut login, &refused, status);
+    let mut login = begun(a)?;
+    let chap = response(a, 0x81, (0, 0), 1, b"AuthMethod=CHAP\0")?;
+    fails(&rt, &mut login, &chap, LoginFault::Auth);
     let (mut login, request) = Login::start(a, settings(a, None)?)?;
     fails(&rt, &mut login, &request, LoginFault::WrongStage);
     Ok(())
@@ -367,31 +382,14 @@ fn other_refusals(rt: HostRuntime) -> Result<(), Fail> {
 fn joined_text(rt: HostRuntime) -> Result<(), Fail> {
     let a = rt.alloc();
     let mut login = offered(&rt, a)?;
-    sends(
-        &rt,
-        a,
-        &mut login,
-        &response(a, 0xc7, (0, 0), 8, b"Initial")?,
-        (0x04, 9),
-        NOTHING,
-    )?;
-    sends(
-        &rt,
-        a,
-        &mut login,
-        &response(a, 0x44, (0, 0), 9, b"R2T=No\0MaxBurst")?,
-        (0x04, 10),
-        NOTHING,
-    )?;
-    sends(
-        &rt,
-        a,
-        &mut login,
-        &response(a, 0x04, (0, 0), 10, b"Length=512\0")?,
-        (0x87, 11),
-        NOTHING,
-    )?;
-    let Ok(LoginStep::Done(done)) = login.next(&response(a, 0x87, (0, 0), 11, NOTHING)?) else {
+    let first = response(a, 0xc7, (0, 0), 8, b"Initial")?;
+    sends(&rt, a, &mut login, &first, (0x04, 9), NOTHING)?;
+    let second = response(a, 0x44, (0, 0), 9, b"R2T=No\0MaxBurst")?;
+    sends(&rt, a, &mut login, &second, (0x04, 10), NOTHING)?;
+    let third = response(a, 0x04, (0, 0), 10, b"Length=512\0")?;
+    sends(&rt, a, &mut login, &third, (0x87, 11), NOTHING)?;
+    let last = response(a, 0x87, (0, 0), 11, NOTHING)?;
+    let Ok(LoginStep::Done(done)) = login.next(&last) else {
         panic!(rt; "not done");
     };
     assert_eq!(rt;
@@ -410,36 +408,31 @@ fn idles(rt: &impl Abort, a: Global, login: &mut Login, count: u8) -> Result<(),
     Ok(())
 }
 
+fn last_fails(rt: &impl Abort, a: Global, flags: u8) -> Result<(), Fail> {
+    let mut login = begun(a)?;
+    idles(rt, a, &mut login, 31)?;
+    let last = response(a, flags, (0, 0), 1, NOTHING)?;
+    fails(rt, &mut login, &last, LoginFault::TooManyTurns);
+    Ok(())
+}
+
 #[test]
 fn thirty_two_turns(rt: HostRuntime) -> Result<(), Fail> {
     let a = rt.alloc();
-    let (mut login, _) = Login::start(a, settings(a, None)?)?;
-    idles(&rt, a, &mut login, 31)?;
-    fails(
-        &rt,
-        &mut login,
-        &response(a, 0, (0, 0), 1, NOTHING)?,
-        LoginFault::TooManyTurns,
-    );
-    let (mut login, _) = Login::start(a, settings(a, None)?)?;
-    idles(&rt, a, &mut login, 31)?;
-    fails(
-        &rt,
-        &mut login,
-        &response(a, 0x40, (0, 0), 1, NOTHING)?,
-        LoginFault::TooManyTurns,
-    );
-    let (mut login, _) = Login::start(a, settings(a, None)?)?;
+    last_fails(&rt, a, 0)?;
+    last_fails(&rt, a, 0x40)?;
+    last_fails(&rt, a, 0x81)
+}
+
+#[test]
+fn done_in_32_turns(rt: HostRuntime) -> Result<(), Fail> {
+    let a = rt.alloc();
+    let mut login = begun(a)?;
     idles(&rt, a, &mut login, 30)?;
-    sends(
-        &rt,
-        a,
-        &mut login,
-        &response(a, 0x81, (0, 0), 1, NOTHING)?,
-        (0x87, 2),
-        OFFER,
-    )?;
-    assert!(rt; login.next(&response(a, 0x87, (0, 0), 2, NOTHING)?).is_ok());
+    let through = response(a, 0x81, (0, 0), 1, NOTHING)?;
+    sends(&rt, a, &mut login, &through, (0x87, 2), OFFER)?;
+    let last = response(a, 0x87, (0, 0), 2, NOTHING)?;
+    assert!(rt; login.next(&last).is_ok());
     Ok(())
 }
 
@@ -462,25 +455,30 @@ fn long_text(a: Global, pairs: u8, more: u8) -> Result<Vec<u8>, Fail> {
 #[test]
 fn text_of_65536_bytes(rt: HostRuntime) -> Result<(), Fail> {
     let a = rt.alloc();
-    let (mut login, _) = Login::start(a, settings(a, None)?)?;
-    let whole = response(a, 0, (0, 0), 1, &long_text(a, 16, 0)?)?;
+    let mut login = begun(a)?;
+    let text = long_text(a, 16, 0)?;
+    let whole = response(a, 0, (0, 0), 1, &text)?;
     sends(&rt, a, &mut login, &whole, (0x81, 2), NOTHING)?;
-    let long = response(a, 0, (0, 0), 1, &long_text(a, 16, 1)?)?;
+    let text = long_text(a, 16, 1)?;
+    let long = response(a, 0, (0, 0), 1, &text)?;
     fails(&rt, &mut login, &long, LoginFault::TooManyTurns);
-    let (mut login, _) = Login::start(a, settings(a, None)?)?;
-    let part = response(a, 0x40, (0, 0), 1, &long_text(a, 16, 0)?)?;
+    Ok(())
+}
+
+#[test]
+fn joined_text_of_65537_bytes(rt: HostRuntime) -> Result<(), Fail> {
+    let a = rt.alloc();
+    let mut login = begun(a)?;
+    let text = long_text(a, 16, 0)?;
+    let part = response(a, 0x40, (0, 0), 1, &text)?;
     sends(&rt, a, &mut login, &part, (0, 2), NOTHING)?;
-    fails(
-        &rt,
-        &mut login,
-        &response(a, 0x40, (0, 0), 2, b"n")?,
-        LoginFault::TooManyTurns,
-    );
+    let more = response(a, 0x40, (0, 0), 2, b"n")?;
+    fails(&rt, &mut login, &more, LoginFault::TooManyTurns);
     Ok(())
 }
 
 fn moves(rt: &impl Abort, a: Global, text: &[u8], address: &[u8], port: u16) -> Result<(), Fail> {
-    let (mut login, _) = Login::start(a, settings(a, None)?)?;
+    let mut login = begun(a)?;
     let address = Label::from_slice(a, address)?;
     let portal = Portal { address, port };
     fails(
@@ -493,7 +491,7 @@ fn moves(rt: &impl Abort, a: Global, text: &[u8], address: &[u8], port: u16) -> 
 }
 
 fn stays(rt: &impl Abort, a: Global, text: &[u8]) -> Result<(), Fail> {
-    let (mut login, _) = Login::start(a, settings(a, None)?)?;
+    let mut login = begun(a)?;
     let status = LoginFault::Status {
         class: 1,
         detail: 2,
@@ -512,46 +510,34 @@ fn redirections(rt: HostRuntime) -> Result<(), Fail> {
         b"127.0.0.1",
         3261,
     )?;
-    moves(
-        &rt,
-        a,
-        b"TargetAlias=t\0TargetAddress=[FE80::1]\0TargetAddress=?\0",
-        b"[fe80::1]",
-        3260,
-    )?;
+    let text = b"TargetAlias=t\0TargetAddress=[FE80::1]\0TargetAddress=?\0";
+    moves(&rt, a, text, b"[fe80::1]", 3260)?;
     stays(&rt, a, NOTHING)?;
     stays(&rt, a, b"TargetAddress=127.0.0.1:3261")?;
     stays(
         &rt,
         a,
         b"TargetAddress=host:3261\0TargetAddress=127.0.0.1:3261\0",
-    )?;
-    let (mut login, _) = Login::start(a, settings(a, None)?)?;
-    sends(
-        &rt,
-        a,
-        &mut login,
-        &response(a, 0x40, (0, 0), 1, b"TargetAddr")?,
-        (0, 2),
-        NOTHING,
-    )?;
-    let portal = Portal {
-        address: Label::from_slice(a, b"10.0.0.1")?,
-        port: 7,
-    };
-    fails(
-        &rt,
-        &mut login,
-        &response(a, 0x87, (1, 1), 2, b"ess=10.0.0.1:7\0")?,
-        LoginFault::Moved { portal },
-    );
+    )
+}
+
+#[test]
+fn joined_redirection(rt: HostRuntime) -> Result<(), Fail> {
+    let a = rt.alloc();
+    let mut login = begun(a)?;
+    let part = response(a, 0x40, (0, 0), 1, b"TargetAddr")?;
+    sends(&rt, a, &mut login, &part, (0, 2), NOTHING)?;
+    let address = Label::from_slice(a, b"10.0.0.1")?;
+    let portal = Portal { address, port: 7 };
+    let moved = response(a, 0x87, (1, 1), 2, b"ess=10.0.0.1:7\0")?;
+    fails(&rt, &mut login, &moved, LoginFault::Moved { portal });
     Ok(())
 }
 
 #[test]
 fn keys_not_understood(rt: HostRuntime) -> Result<(), Fail> {
     let a = rt.alloc();
-    let (mut login, _) = Login::start(a, settings(a, None)?)?;
+    let mut login = begun(a)?;
     let text = b"X-a=1\0TargetAlias=t\0Y=\0X-a=1\0TargetPortalGroupTag=1\0";
     let answers = b"X-a=NotUnderstood\0Y=NotUnderstood\0X-a=NotUnderstood\0";
     sends(
