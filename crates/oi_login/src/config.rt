@@ -79,13 +79,13 @@ fn copy_auth(alloc: Global, auth: &Option<LoginAuth>) -> Result<Option<LoginAuth
     }
 }
 
-fn copy_mutual(alloc: Global, mutual: &Option<Mutual>) -> Result<Option<Mutual>, NoMemory>
-    ensures { IfOk result (λ m. m ≡ mutual.now) }
+fn copy_mutual(alloc: Global, wanted: &Option<Mutual>) -> Result<Option<Mutual>, NoMemory>
+    ensures { IfOk result (λ m. m ≡ wanted.now) }
 {
-    match mutual {
-        Some(mutual) => Ok(Some(Mutual {
-            user: mutual.user.copy(alloc)?,
-            secret: mutual.secret.copy(alloc)?,
+    match wanted {
+        Some(wanted) => Ok(Some(Mutual {
+            user: wanted.user.copy(alloc)?,
+            secret: wanted.secret.copy(alloc)?,
         })),
         None => Ok(None),
     }
