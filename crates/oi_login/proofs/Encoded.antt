@@ -1,5 +1,5 @@
 -- The requests of a login can be encoded.
-use Rattle.std.proofs.Common.{◌≡◌, ◌∙◌, ◌<◌, ◌≤◌, ◌+◌, ◌*◌, ◌^◌, ◌%◌, ℕ, Bool, true, false, ◌==◌, ◌&&◌, not, List, [], ◌∷◌, ◌++◌, Option, Some, None, length, ap, sym, subst, refl, arith, length-append, MatchBool, MatchOption, lit<, lit≤}
+use Rattle.std.proofs.Common.{◌≡◌, ◌<◌, ◌≤◌, ◌*◌, ◌^◌, ℕ, Bool, true, false, ◌==◌, ◌&&◌, not, List, [], ◌++◌, Option, Some, None, length, ap, sym, subst, refl, arith, length-append, MatchBool, MatchOption, lit<, lit≤}
 use Rattle.std.specs.Prelude.{if◌then◌else◌, nat_lt}
 use Rattle.std.proofs.lemmas.Bool.Decides.{nat_tests}
 use Rattle.oi_base.specs.Serials.{successor}
@@ -9,17 +9,17 @@ use Rattle.oi_pdu.specs.declared.codec.Pdu.{Pdu}
 use Rattle.oi_pdu.specs.declared.header.Header.{Header}
 use Rattle.oi_pdu.specs.declared.header.Header.TheVariants as headers
 use Rattle.oi_pdu.specs.declared.header.LoginResponse.{LoginResponse as ResponseHeader}
-use Rattle.oi_text.specs.Pairs.{IsText, pair_text, text_of}
+use Rattle.oi_text.specs.Pairs.{IsText, text_of}
 use Rattle.oi_text.specs.declared.pairs.Pair.{Pair}
 use Rattle.oi_login.proofs.Sizes.{algorithm_short, first_short, offer_short, refused_short, response_short}
 use Rattle.oi_login.proofs.Steps.{either}
 use Rattle.oi_login.specs.Answers.{IsFound, refusals}
 use Rattle.oi_login.specs.Configs.{AuthFits, HasNames, IsSendable, IsValidAuth}
-use Rattle.oi_login.specs.Keys.{first_keys, response_keys}
+use Rattle.oi_login.specs.Keys.{first_keys}
 use Rattle.oi_login.specs.Requests.{request_of}
 use Rattle.oi_login.specs.Stages.{heard, is_due, is_last_turn, is_long, is_operational}
 use Rattle.oi_login.specs.States.{begins_transit, first_request}
-use Rattle.oi_login.specs.Turns.{FailsBy, Hears, Moves, ReadsText, Refuses, Succeeds, TakesChallenge, Turns, TurnsBy, after_opening, after_security, asked, asked_on, opened_with, settled, settled_by, takes_method}
+use Rattle.oi_login.specs.Turns.{FailsBy, Hears, Moves, ReadsText, Refuses, Succeeds, TakesChallenge, Turns, TurnsBy, after_security, asked, asked_on, opened_with, settled, settled_by, takes_method}
 use Rattle.oi_login.specs.declared.config.LoginAuth.{LoginAuth}
 use Rattle.oi_login.specs.declared.config.LoginConfig.{LoginConfig}
 use Rattle.oi_login.specs.declared.fault.LoginFault.{LoginFault}

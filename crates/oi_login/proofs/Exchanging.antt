@@ -1,9 +1,8 @@
 -- The exchange, one response more, and the machine's answers as a whole.
-use Rattle.std.proofs.Common.{◌≡◌, ◌∙◌, ℕ, List, [], ◌∷◌, ◌++◌, Option, Some, None, Result, Ok, Err, IsSome, ap, sym, subst, refl}
-use Rattle.oi_base.specs.declared.login.LoginDone.{LoginDone}
+use Rattle.std.proofs.Common.{◌≡◌, ◌∙◌, List, [], ◌∷◌, ◌++◌, Some, None, Result, Ok, Err, ap, sym, subst, refl}
 use Rattle.oi_pdu.specs.declared.codec.Pdu.{Pdu}
-use Rattle.oi_login.specs.Exchanges.{AnswersAll, ComesTo, Continues, ExchangeFrom, LoginExchange, Outcome, Going, Done, Failed, sent_in}
-use Rattle.oi_login.specs.States.{Answers, LoginState, first_request, opening, state_at}
+use Rattle.oi_login.specs.Exchanges.{AnswersAll, ComesTo, Continues, ExchangeFrom, LoginExchange, Outcome, Going, Failed, sent_in}
+use Rattle.oi_login.specs.States.{LoginState, first_request, opening, state_at}
 use Rattle.oi_login.specs.Turns.{Turns}
 use Rattle.oi_login.specs.declared.config.LoginConfig.{LoginConfig}
 use Rattle.oi_login.specs.declared.fault.LoginFault.{LoginFault}

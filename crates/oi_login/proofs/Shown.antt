@@ -4,7 +4,6 @@ use Rattle.std.specs.Prelude.{if◌then◌else◌, slice_get}
 use Rattle.std.proofs.lemmas.List.{append-nil}
 use Rattle.oi_base.specs.declared.login.LoginDone.{LoginDone}
 use Rattle.oi_base.specs.declared.login.Mutual.{Mutual}
-use Rattle.oi_negotiate.specs.Negotiated.{refused_key}
 use Rattle.oi_pdu.specs.declared.codec.Pdu.{Pdu}
 use Rattle.oi_pdu.specs.declared.header.Header.{Header}
 use Rattle.oi_pdu.specs.declared.header.Header.TheVariants as headers
@@ -14,12 +13,12 @@ use Rattle.oi_text.specs.declared.pairs.Pair.{Pair}
 use Rattle.oi_login.proofs.Steps.{either}
 use Rattle.oi_login.specs.Answers.{IsFound, refusals}
 use Rattle.oi_login.specs.Chap.{HasChallenge, HasProof, IsProved, IsProvedTo}
-use Rattle.oi_login.specs.Exchanges.{Continues, ExchangeFrom, LoginExchange, Outcome, Going, Done, Failed}
+use Rattle.oi_login.specs.Exchanges.{Continues, ExchangeFrom, LoginExchange, Done, Failed}
 use Rattle.oi_login.specs.Keys.{algorithm_keys, response_keys}
-use Rattle.oi_login.specs.Mutual.{ChallengesTarget, ShowsItself, joined_text}
+use Rattle.oi_login.specs.Mutual.{ShowsItself, joined_text}
 use Rattle.oi_login.specs.Stages.{heard, is_due, is_last_turn, is_long, is_operational}
 use Rattle.oi_login.specs.States.{first_request, opening}
-use Rattle.oi_login.specs.Turns.{FailsBy, Hears, Moves, ReadsText, Refuses, Responds, Succeeds, TakesChallenge, TakesProof, Turns, TurnsBy, after_opening, asked, asked_on, asking, opened_with, settled, takes_method}
+use Rattle.oi_login.specs.Turns.{FailsBy, Hears, Moves, ReadsText, Refuses, Succeeds, TakesChallenge, Turns, TurnsBy, after_opening, asked, asked_on, asking, opened_with, settled, takes_method}
 use Rattle.oi_login.specs.declared.chap.Challenge.{Challenge as TargetChallenge}
 use Rattle.oi_login.specs.declared.config.LoginAuth.{LoginAuth}
 use Rattle.oi_login.specs.declared.config.LoginConfig.{LoginConfig}
@@ -30,7 +29,7 @@ use Rattle.oi_login.specs.declared.moves.Turn.{Turn}
 use Rattle.oi_login.specs.declared.moves.Turn.TheVariants.{Asks, Reaches, Fails}
 use Rattle.oi_login.specs.declared.progress.Progress.{Progress}
 use Rattle.oi_login.specs.declared.progress.Stage.{Stage}
-use Rattle.oi_login.specs.declared.progress.Stage.TheVariants.{Opening, Challenge, Proof, Security, Operational}
+use Rattle.oi_login.specs.declared.progress.Stage.TheVariants.{Opening, Challenge, Proof}
 
 -- what a response leads to outside the operational stage: a fault, a request for the rest of a text, or what is asked next
 

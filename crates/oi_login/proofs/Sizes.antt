@@ -1,31 +1,24 @@
 -- Every request can be encoded: its text is short.
-use Rattle.std.proofs.Common.{◌≡◌, ◌∙◌, inl, inr, ◌<◌, ◌≤◌, ◌+◌, ◌*◌, ◌^◌, ◌%◌, ℕ, Bool, true, false, ◌==◌, ◌&&◌, not, List, [], ◌∷◌, ◌++◌, Option, Some, None, length, ap, sym, subst, refl, arith, length-append, MatchBool, MatchOption, lit≤}
-use Rattle.std.specs.Prelude.{codes, if◌then◌else◌, nat_lt}
+use Rattle.std.proofs.Common.{◌≡◌, ◌∙◌, inl, inr, ◌<◌, ◌≤◌, ◌+◌, ◌*◌, ◌^◌, ℕ, Bool, true, false, List, [], ◌∷◌, ◌++◌, Option, Some, None, length, ap, arith, length-append, lit≤}
+use Rattle.std.specs.Prelude.{codes, if◌then◌else◌}
 use Rattle.std.specs.Fmt.{decimal}
 use Rattle.std.proofs.lemmas.Fmt.{length-decimal-le}
-use Rattle.std.proofs.lemmas.Bool.Decides.{nat_tests}
-use Rattle.hex.specs.Hex.{encode_lower, lower_digits}
+use Rattle.hex.specs.Hex.{lower_digits}
 use Rattle.hex.proofs.HexLemmas.{length-encode_with}
 use Rattle.md5.proofs.StandardFacts.{length-md5}
-use Rattle.oi_base.specs.Serials.{successor}
 use Rattle.oi_base.specs.declared.login.Mutual.{Mutual}
 use Rattle.oi_chap.specs.Chap.{response}
 use Rattle.oi_names.specs.Names.{IsName, eui, iqn, naa}
 use Rattle.oi_negotiate.specs.declared.offer.Offer.{Offer}
-use Rattle.oi_pdu.specs.Wire.{Encodable}
-use Rattle.oi_pdu.specs.declared.codec.Pdu.{Pdu}
-use Rattle.oi_text.specs.Pairs.{IsText, pair_text, text_of}
+use Rattle.oi_text.specs.Pairs.{pair_text, text_of}
 use Rattle.oi_text.specs.declared.pairs.Pair.{Pair}
 use Rattle.oi_login.proofs.Texts.{text_of-append}
 use Rattle.oi_login.specs.Answers.{is_known, refusals, refusals_to}
 use Rattle.oi_login.specs.Configs.{HasNames, IsTargetName, IsUser, OfferFits}
 use Rattle.oi_login.specs.Keys.{algorithm_keys, binary_text, challenge_keys, common_keys, first_keys, fixed_keys, flow_keys, keyed, method_of, offer_keys, response_keys, session_keys, session_type, target_keys, time_keys, word_text}
-use Rattle.oi_login.specs.Requests.{request_of}
 use Rattle.oi_login.specs.declared.chap.Challenge.{Challenge as TargetChallenge}
 use Rattle.oi_login.specs.declared.config.LoginAuth.{LoginAuth}
 use Rattle.oi_login.specs.declared.config.LoginConfig.{LoginConfig}
-use Rattle.oi_login.specs.declared.progress.Stage.{Stage}
-use Rattle.oi_login.specs.declared.progress.Stage.TheVariants.{Opening, Challenge, Proof, Security, Operational}
 
 -- keys and values that are as short as those of a pair have to be
 abbrev pub AreShort : List Pair → Type 0

@@ -1,23 +1,20 @@
 -- What the machine answers, from what a response leads to.
-use Rattle.std.proofs.Common.{◌≡◌, ◌∙◌, ℕ, Bool, true, false, List, [], Option, Some, None, Err, sym, subst, refl, MatchBool, MatchOption, ◌++◌, ◌==◌, ◌&&◌, not}
+use Rattle.std.proofs.Common.{◌≡◌, ℕ, Bool, true, false, List, [], Option, Some, None, Err, sym, subst, MatchBool, MatchOption, ◌++◌, ◌==◌, ◌&&◌, not}
 use Rattle.std.specs.Prelude.{if◌then◌else◌}
 use Rattle.oi_negotiate.specs.Negotiated.{refused_key}
 use Rattle.oi_pdu.specs.declared.codec.Pdu.{Pdu}
 use Rattle.oi_pdu.specs.declared.header.Header.{Header}
 use Rattle.oi_pdu.specs.declared.header.Header.TheVariants as headers
 use Rattle.oi_pdu.specs.declared.header.LoginResponse.{LoginResponse as ResponseHeader}
-use Rattle.oi_text.specs.Pairs.{IsText}
 use Rattle.oi_text.specs.declared.pairs.Pair.{Pair}
-use Rattle.oi_login.specs.Answers.{IsFound}
 use Rattle.oi_login.specs.Stages.{heard, is_due, is_last_turn, is_long, is_operational}
 use Rattle.oi_login.specs.States.{Answers, LoginState, state_at}
-use Rattle.oi_login.specs.Turns.{Hears, Moves, ReadsText, Redirects, Refuses, Responds, Succeeds, Turns, TurnsBy, asked, asked_on, settled, settled_by}
+use Rattle.oi_login.specs.Turns.{Hears, Moves, ReadsText, Redirects, Refuses, Succeeds, Turns, TurnsBy, asked, asked_on, settled, settled_by}
 use Rattle.oi_login.specs.declared.config.LoginConfig.{LoginConfig}
 use Rattle.oi_login.specs.declared.fault.LoginFault.{LoginFault}
 use Rattle.oi_login.specs.declared.fault.LoginFault.TheVariants.{Status, WrongStage, Key, Auth, Moved, TooManyTurns, Over, Memory}
 use Rattle.oi_login.specs.declared.moves.Ask.{Ask}
-use Rattle.oi_login.specs.declared.moves.Turn.{Turn}
-use Rattle.oi_login.specs.declared.moves.Turn.TheVariants.{Asks, Reaches, Fails}
+use Rattle.oi_login.specs.declared.moves.Turn.TheVariants.{Asks, Fails}
 use Rattle.oi_login.specs.declared.progress.Progress.{Progress}
 
 -- a fault that a response has; the login's own end and want of memory are none

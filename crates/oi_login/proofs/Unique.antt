@@ -13,7 +13,7 @@ use Rattle.oi_text.specs.Pairs.{IsText}
 use Rattle.oi_text.specs.declared.pairs.Pair.{Pair}
 use Rattle.oi_login.proofs.Readings.{one_binary, one_text}
 use Rattle.oi_login.specs.Answers.{IsFound}
-use Rattle.oi_login.specs.Chap.{HasChallenge, IsProved}
+use Rattle.oi_login.specs.Chap.{HasChallenge}
 use Rattle.oi_login.specs.Exchanges.{Continues, ExchangeFrom, LoginExchange, Outcome}
 use Rattle.oi_login.specs.Keys.{response_keys}
 use Rattle.oi_login.specs.Stages.{heard, is_due, is_long, is_operational}

@@ -1,18 +1,11 @@
 -- A login over all responses that come: the requests that are sent, and what it comes to.
-use Rattle.std.specs.Prelude.{◌≡◌, ℕ, ◌+◌, ◌≤◌, List, [], ◌∷◌, ◌++◌, Option, Some, None, Result, Ok, Err, length, slice_get, nat_lt, if◌then◌else◌}
+use Rattle.std.specs.Prelude.{◌≡◌, ℕ, ◌≤◌, List, [], ◌∷◌, Option, Some, None, Result, Ok, Err, length, nat_lt, if◌then◌else◌}
 use Rattle.std.specs.List.{flat_map}
 use Rattle.oi_base.specs.declared.login.LoginDone.{LoginDone}
-use Rattle.oi_base.specs.declared.login.Mutual.{Mutual}
 use Rattle.oi_names.specs.declared.portal.Portal.{Portal}
 use Rattle.oi_pdu.specs.declared.codec.Pdu.{Pdu}
-use Rattle.oi_text.specs.Pairs.{IsText, text_of}
-use Rattle.oi_text.specs.declared.pairs.Pair.{Pair}
-use Rattle.oi_login.specs.Chap.{HasProof}
-use Rattle.oi_login.specs.Keys.{response_keys}
 use Rattle.oi_login.specs.States.{Answers, LoginState, first_request, opening}
 use Rattle.oi_login.specs.Turns.{Turns}
-use Rattle.oi_login.specs.declared.chap.Challenge.{Challenge}
-use Rattle.oi_login.specs.declared.config.LoginAuth.{LoginAuth}
 use Rattle.oi_login.specs.declared.config.LoginConfig.{LoginConfig}
 use Rattle.oi_login.specs.declared.fault.LoginFault.{LoginFault}
 use Rattle.oi_login.specs.declared.fault.LoginFault.TheVariants.{Moved, Memory}

@@ -1,5 +1,5 @@
 -- What mutual CHAP promises (RFC 7143, section 12.1.3).
-use Rattle.std.specs.Prelude.{◌≡◌, ℕ, List, ◌++◌, Option, Some, length, slice_get}
+use Rattle.std.specs.Prelude.{◌≡◌, ℕ, List, ◌++◌, Some, length, slice_get}
 use Rattle.std.specs.List.{flat_map}
 use Rattle.oi_base.specs.declared.login.Mutual.{Mutual}
 use Rattle.oi_pdu.specs.declared.codec.Pdu.{Pdu}

@@ -1,5 +1,5 @@
 -- Login requests (RFC 7143, section 11.12).
-use Rattle.std.specs.Prelude.{ℕ, Bool, true, false, List, if◌then◌else◌}
+use Rattle.std.specs.Prelude.{ℕ, Bool, false, List, if◌then◌else◌}
 use Rattle.oi_pdu.specs.declared.codec.Pdu.{Pdu}
 use Rattle.oi_pdu.specs.declared.header.Header.TheVariants.{LoginRequest}
 use Rattle.oi_login.specs.Stages.{stage_number, next_number}

@@ -1,5 +1,5 @@
 -- What contracts see of a login, and what its calls answer.
-use Rattle.std.specs.Prelude.{◌≡◌, ℕ, Bool, true, false, not, List, [], Option, Some, None, IsSome, Result, Ok, Err, is_some}
+use Rattle.std.specs.Prelude.{◌≡◌, Bool, not, [], Option, Some, None, IsSome, Result, Ok, Err, is_some}
 use Rattle.oi_pdu.specs.Wire.{Encodable}
 use Rattle.oi_pdu.specs.declared.codec.Pdu.{Pdu}
 use Rattle.oi_text.specs.Pairs.{text_of}

@@ -1,13 +1,11 @@
 -- What a login does with one response. For one response the order is: the opcode, the status class, the stages, the length of
 -- the text, the text, its keys, and last the count of responses.
-use Rattle.std.specs.Prelude.{◌≡◌, ℕ, Bool, true, false, ◌+◌, ◌||◌, ◌&&◌, ◌==◌, ◌++◌, not, List, [], ◌∷◌, Option, Some, None, codes, is_some, MatchBool, MatchOption, if◌then◌else◌}
+use Rattle.std.specs.Prelude.{◌≡◌, ℕ, Bool, true, false, ◌+◌, ◌||◌, ◌&&◌, ◌==◌, ◌++◌, not, List, [], Option, Some, None, codes, MatchBool, MatchOption, if◌then◌else◌}
 use Rattle.oi_base.specs.Serials.{successor}
-use Rattle.oi_base.specs.declared.login.Params.{Params}
 use Rattle.oi_names.specs.Portals.{IsPortalOf}
 use Rattle.oi_names.specs.declared.portal.Portal.{Portal}
 use Rattle.oi_negotiate.specs.Keys.{is_text}
 use Rattle.oi_negotiate.specs.Negotiated.{answer_to, negotiated, refused_key}
-use Rattle.oi_negotiate.specs.declared.offer.Offer.{Offer}
 use Rattle.oi_pdu.specs.declared.codec.Pdu.{Pdu}
 use Rattle.oi_pdu.specs.declared.header.Header.{Header}
 use Rattle.oi_pdu.specs.declared.header.Header.TheVariants.{LoginResponse}
