@@ -1,0 +1,15 @@
+//! Node records: which settings a record has, how a record is written as a text and read again, and the path under
+//! which its text is stored.
+#![tactic(auto)]
+
+mod key;
+mod line;
+mod range;
+mod schema;
+mod settings;
+mod text;
+
+pub use key::{RecordKey, path_of};
+pub use range::takes_value;
+pub use schema::{Part, Range, Setting, is_open};
+pub use text::RecordFault;
