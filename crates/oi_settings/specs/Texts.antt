@@ -151,3 +151,7 @@ pub data BadLine (bytes : List ℕ) (line : ℕ) : Type 0 where
 abbrev pub IsFault : List ℕ → RecordFault → Type 0
 IsFault bytes (Bad line) = (at : ℕ) × (line ≡ told at) × BadLine bytes at
 IsFault bytes Memory = Unit {0}
+
+-- the same of what follows the first line
+abbrev pub IsFaultBehind : Schema → List ℕ → RecordFault → Type 0
+IsFaultBehind schema text e = (bytes : List ℕ) → bytes ≡ begin_line schema ++ text → IsFault bytes e

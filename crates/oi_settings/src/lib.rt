@@ -4,12 +4,15 @@
 
 mod key;
 mod line;
+mod naming;
 mod range;
+mod record;
 mod schema;
 mod settings;
 mod text;
 
 pub use key::{RecordKey, path_of};
 pub use range::takes_value;
+pub use record::NodeRecord;
 pub use schema::{Part, Range, Setting, is_open};
-pub use text::RecordFault;
+pub use text::{RecordFault, read_text};

@@ -62,9 +62,9 @@ fn is_name(alloc: Global, text: &[u8]) -> Result<bool, NoMemory>
     ensures { IfOk result (λ b. IsTrue b ↔ IsName text.now) }
 {
     match IscsiName::read_bytes(alloc, text) {
-        Ok(_) => Ok(true),
-        Err(NameFault::Bad { place: _ }) => Ok(false),
-        Err(NameFault::Memory) => Err(NoMemory),
+        Ok(_) => return Ok(true),
+        Err(NameFault::Bad { place: _ }) => return Ok(false),
+        Err(NameFault::Memory) => return Err(NoMemory),
     }
 }
 
