@@ -139,11 +139,11 @@ NoEnd rows before rest = IsComplete rows before → (more : List ℕ) → rest �
 -- the first bad line of the bytes, counted from 1: the first one, where it is no first line; the one behind some good lines,
 -- where it is neither a good line nor a last line behind all settings; the one behind the last line
 pub data BadLine (bytes : List ℕ) (line : ℕ) : Type 0 where
-  no_begin : line ≡ 1 → ((schema : Schema) (rest : List ℕ) → bytes ≡ begin_line schema ++ rest → ⊥) → BadLine bytes line
-  no_line : (schema : Schema) (before : List Pair) (rest : List ℕ) → line ≡ length before + 2
+  bad_begin : line ≡ 1 → ((schema : Schema) (rest : List ℕ) → bytes ≡ begin_line schema ++ rest → ⊥) → BadLine bytes line
+  bad_line : (schema : Schema) (before : List Pair) (rest : List ℕ) → line ≡ length before + 2
     → bytes ≡ begin_line schema ++ (lines_of before ++ rest) → AreLines (rows_of schema) before → AreOnce before
     → NoLine (rows_of schema) before rest → NoEnd (rows_of schema) before rest → BadLine bytes line
-  more : (schema : Schema) (before : List Pair) (rest : List ℕ) → line ≡ length before + 3
+  bad_rest : (schema : Schema) (before : List Pair) (rest : List ℕ) → line ≡ length before + 3
     → bytes ≡ begin_line schema ++ (lines_of before ++ (end_line ++ rest)) → ArePairs (rows_of schema) before
     → 0 < length rest → BadLine bytes line
 

@@ -49,9 +49,9 @@ pub fn read_text(alloc: Global, bytes: &[u8]) -> Result<NodeRecord, RecordFault>
         Ok(settings) => settings,
         Err(fault) => return Err(fault),
     };
-    if migrate(alloc, start.schema, &mut settings).is_err() {
+    let Ok(()) = migrate(alloc, start.schema, &mut settings) else {
         return Err(RecordFault::Memory);
-    }
+    };
     match key_of(alloc, &settings) {
         Ok(key) => Ok(NodeRecord::from_parts(key, settings)),
         Err(_) => Err(RecordFault::Memory),
@@ -116,9 +116,9 @@ fn read_lines(alloc: Global, schema: Schema, text: &[u8]) -> Result<Settings, Re
         if !taken {
             return Err(RecordFault::Bad { line });
         }
-        if keep(alloc, next, &mut read).is_err() {
+        let Ok(()) = keep(alloc, next, &mut read) else {
             return Err(RecordFault::Memory);
-        }
+        };
         rest = next.more;
         line = next_line(line);
     }

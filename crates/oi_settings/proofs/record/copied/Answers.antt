@@ -1,0 +1,1 @@
+use Rattle.oi_settings.proofs.record.copied.Goals as goal
