@@ -4,6 +4,7 @@ use Rattle.std.specs.Fmt.{decimal}
 use Rattle.std.proofs.lemmas.List.{length-map}
 use Rattle.oi_names.specs.Portals.{HasPort, HasTag, IsAddress, IsPortalOf, lower_byte, lower_case}
 use Rattle.oi_names.proofs.Readings.{once}
+use Rattle.oi_settings.specs.Keys.{IsRead}
 
 pub portal_of_address : (text : List ℕ) → IsAddress text → IsPortalOf (lower_case text) 3260 None text
 portal_of_address text address = (text, refl, (address, (text, inl (refl, refl), refl)))
@@ -31,3 +32,8 @@ none_there (Some t) e = absurd (true≢false e)
 -- an address with a port behind it is read as that portal
 pub portal_with_port : (host : List ℕ) (port : ℕ) → IsAddress host → 1 ≤ port → port ≤ 65535 → IsPortalOf (lower_case host) port None (host ++ 58 ∷ decimal port)
 portal_with_port host port word low high = (host, refl, (word, (host ++ 58 ∷ decimal port, inr (refl, low, high), refl)))
+
+-- the portal of an address and a port is one that a text names
+pub read_from : (address host : List ℕ) (port : ℕ) → address ≡ lower_case host → IsAddress host → 1 ≤ port → port ≤ 65535 → IsRead record { address = address; port = port }
+read_from address host port lower word low high =
+    (host ++ 58 ∷ decimal port, None, subst (λ (a : List ℕ). IsPortalOf a port None (host ++ 58 ∷ decimal port)) (sym lower) (portal_with_port host port word low high))

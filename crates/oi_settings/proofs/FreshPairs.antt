@@ -1,10 +1,10 @@
 -- Fresh records.
-use Rattle.std.proofs.Common.{◌≡◌, ℕ, zero, suc, ◌+◌, ◌<◌, ◌≤◌, ◌^◌, ◌⊎◌, inl, inr, Bool, true, false, true≢false, cond, bytes_eq, is_some, unwrap_or, Option, Some, None, List, [], ◌∷◌, ◌++◌, length, map, take, refl, sym, ap, ◌∙◌, subst, arith, length-append}
+use Rattle.std.proofs.Common.{◌≡◌, ℕ, zero, suc, ◌+◌, ◌<◌, ◌≤◌, ◌^◌, ◌⊎◌, inl, inr, Bool, true, false, true≢false, cond, bytes_eq, is_some, unwrap_or, option_map, Option, Some, None, List, [], ◌∷◌, ◌++◌, length, map, take, refl, sym, ap, ◌∙◌, subst, arith, length-append}
 use Rattle.std.specs.Prelude.{IfSome, slice_get}
 use Rattle.std.specs.Fmt.{decimal}
 use Rattle.std.specs.List.{list_all}
 use Rattle.std.proofs.lemmas.List.{length-map, take_more}
-use Rattle.std.proofs.lemmas.Option.{get_or_from_slice_get, slice_get_within}
+use Rattle.std.proofs.lemmas.Option.{get_or_from_slice_get, slice_get-map, slice_get_within}
 use Rattle.oi_names.specs.declared.portal.Portal.{Portal}
 use Rattle.oi_names.specs.Portals.{HasPort, IsAddress, IsPortalOf, lower_byte, lower_case, portal_text}
 use Rattle.oi_names.proofs.Lists.{split_same}
@@ -13,9 +13,10 @@ use Rattle.oi_settings.specs.declared.schema.Part.{Part}
 use Rattle.oi_settings.specs.declared.schema.Part.TheVariants.{Target, Tag, Address, Port, Interface}
 use Rattle.oi_settings.specs.declared.schema.Range.{Range}
 use Rattle.oi_settings.specs.declared.schema.Range.TheVariants.{OfKey, Number, NumberOrNever, YesNo, Startup, Method, Secret}
+use Rattle.oi_settings.specs.declared.schema.Setting.{Setting}
 use Rattle.oi_settings.specs.Keys.{IsKey, IsRead, Key}
 use Rattle.oi_settings.specs.Pairs.{AreOnce, Pair, has_name, put, value_of}
-use Rattle.oi_settings.specs.Schema.{IsIn, IsPart, Row, Takes, fresh_pairs, initial_by, is_of_key, part_text, row_named, table}
+use Rattle.oi_settings.specs.Schema.{IsIn, IsPart, Row, Takes, fresh_pairs, initial_by, is_of_key, part_text, row_named, row_of, table}
 use Rattle.oi_settings.specs.Texts.{AreLines, ArePairs, IsKeyOf, IsLine, IsNode, Names, Node, is_value_byte, part_name}
 use Rattle.oi_settings.proofs.PairLists.{name_itself, put-new, same_name}
 use Rattle.oi_settings.proofs.Tables.{AreNamed, Fits, all_fit, fits_in, is_in_from, named, row_fits}
@@ -92,6 +93,7 @@ key_fresh key is Interface = (key.iface, refl, refl)
 
 pub fresh_node : (key : Key) → IsKey key → IsNode record { key = key; pairs = fresh_pairs key }
 fresh_node key is = record {
+  valid = is;
   pairs = record { lines = lines_of_rows key is table all_fit named; once = once_fresh key; complete = refl };
   named = key_fresh key is;
 }
@@ -127,3 +129,18 @@ put_next ps i n v once found =
 
 pub put_next_fresh : (key : Key) (i : ℕ) (n v : List ℕ) → slice_get (fresh_pairs key) i ≡ Some (n, v) → put n v (take i (fresh_pairs key)) ≡ take (i + 1) (fresh_pairs key)
 put_next_fresh key i n v found = put_next (fresh_pairs key) i n v (once_fresh key) found
+
+-- one pair more is copied
+pub copied_on : (ps : List Pair) (i : ℕ) (n v m w : List ℕ) (copy new : List Pair) → AreOnce ps → new ≡ put m w copy → m ≡ n → w ≡ v → copy ≡ take i ps → slice_get ps i ≡ Some (n, v)
+    → new ≡ take (i + 1) ps
+copied_on ps i n v m w copy new once made name value so_far found =
+    made ∙ ap (λ (x : List ℕ). put x w copy) name ∙ ap (λ (x : List ℕ). put n x copy) value ∙ ap (put n v) so_far ∙ put_next ps i n v once found
+
+-- one setting more is put
+pub fresh_on : (key : Key) (ss : List Setting) (i : ℕ) (s : Setting) (fresh new : List Pair) → map row_of ss ≡ table → slice_get ss i ≡ Some s
+    → new ≡ put s.name.now (initial_by s.range s.initial.now key) fresh → fresh ≡ take i (fresh_pairs key) → new ≡ take (i + 1) (fresh_pairs key)
+fresh_on key ss i s fresh new rows at made so_far =
+    let pair : Row → Pair = λ r. (r.name, initial_by r.range r.initial key) in
+    let found : slice_get (fresh_pairs key) i ≡ Some (s.name.now, initial_by s.range s.initial.now key) =
+    ap (λ (x : List Row). slice_get (map pair x) i) (sym rows) ∙ slice_get-map pair (map row_of ss) i ∙ ap (option_map pair) (slice_get-map row_of ss i ∙ ap (option_map row_of) at) in
+    made ∙ ap (put s.name.now (initial_by s.range s.initial.now key)) so_far ∙ put_next_fresh key i s.name.now (initial_by s.range s.initial.now key) found

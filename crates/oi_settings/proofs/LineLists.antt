@@ -1,7 +1,8 @@
 -- Lists of lines: a text is one list of lines at most, and what tells its first bad line.
-use Rattle.std.proofs.Common.{◌≡◌, ℕ, ◌+◌, ◌<◌, Bool, true, false, true≢false, List, [], ◌∷◌, ◌++◌, length, get_or, drop, refl, sym, ap, ◌∙◌, subst, arith, append_assoc, codes}
+use Rattle.std.proofs.Common.{◌≡◌, ℕ, ◌+◌, ◌<◌, Bool, true, false, true≢false, List, [], ◌∷◌, ◌++◌, length, get_or, take, drop, Some, slice_get, refl, sym, ap, ◌∙◌, subst, arith, append_assoc, codes}
 use Rattle.std.specs.List.{prefix_len}
-use Rattle.std.proofs.lemmas.List.{append-nil}
+use Rattle.std.proofs.lemmas.List.{append-nil, take_more}
+use Rattle.std.proofs.lemmas.Option.{get_or_from_slice_get, slice_get_within}
 use Rattle.std.proofs.lemmas.List.Concat.{flat_map-append}
 use Rattle.oi_names.proofs.Lists.{split_same}
 use Rattle.oi_settings.specs.Pairs.{Pair, has_name, put}
@@ -82,3 +83,12 @@ pub no_other_line : (rows : List Row) (before : List Pair) (rest n v m : List �
 no_other_line rows before rest n v m line found none name value more next whole =
     let same = same_line name value more n v m next.line line (sym whole ∙ found) in
     none (subst (λ (x : List ℕ). IsNext rows before x v) same.0 (subst (λ (x : List ℕ). IsNext rows before name x) same.1 next))
+
+-- one line more is written
+pub written_on : (old before after : List ℕ) (ps : List Pair) (i : ℕ) (n v : List ℕ) → before ≡ old ++ lines_of (take i ps) → after ≡ before ++ line_text n v → slice_get ps i ≡ Some (n, v)
+    → after ≡ old ++ lines_of (take (i + 1) ps)
+written_on old before after ps i n v so_far line found =
+    let longer : take (i + 1) ps ≡ take i ps ++ (n, v) ∷ [] =
+    take_more ps i (n, v) (slice_get_within ps i (n, v) found) ∙ ap (λ (p : Pair). take i ps ++ p ∷ []) (get_or_from_slice_get ps i (n, v) (n, v) found) in
+    line ∙ ap (λ (t : List ℕ). t ++ line_text n v) so_far ∙ append_assoc old (lines_of (take i ps)) (line_text n v)
+    ∙ ap (λ (t : List ℕ). old ++ t) (sym (ap lines_of longer ∙ lines_of-push (take i ps) n v))

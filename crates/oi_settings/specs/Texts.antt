@@ -3,7 +3,7 @@ use Rattle.std.specs.Prelude.{◌≡◌, ◌<◌, ◌≤◌, ◌+◌, ◌||◌, 
 use Rattle.std.specs.List.{flat_map, list_all}
 use Rattle.oi_base.specs.Counts.{told}
 use Rattle.oi_names.specs.Portals.{lower_case}
-use Rattle.oi_settings.specs.Keys.{Key}
+use Rattle.oi_settings.specs.Keys.{IsKey, Key}
 use Rattle.oi_settings.specs.Pairs.{Pair, AreOnce, has_name, put, value_of}
 use Rattle.oi_settings.specs.Schema.{Row, Takes, newest, part_text, table}
 use Rattle.oi_settings.specs.declared.schema.Part.{Part}
@@ -110,6 +110,7 @@ IsKeyOf ps key = (part : Part) → (text : List ℕ) × (value_of (part_name par
 
 -- the record is well formed
 pub record IsNode (node : Node) : Type 0 where
+  pub valid : IsKey node.key
   pub pairs : ArePairs table node.pairs
   pub named : IsKeyOf node.pairs node.key
 
@@ -120,6 +121,7 @@ pub record IsStored (bytes : List ℕ) (node : Node) : Type 0 where
   pub text : bytes ≡ text_by schema written
   pub pairs : ArePairs (rows_of schema) written
   pub stored : node.pairs ≡ stored_by schema written
+  pub valid : IsKey node.key
   pub named : IsKeyOf node.pairs node.key
 
 -- a line that may stand behind these pairs

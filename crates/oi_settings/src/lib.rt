@@ -3,6 +3,7 @@
 #![tactic(auto)]
 
 mod key;
+mod laws;
 mod line;
 mod naming;
 mod range;
@@ -12,6 +13,7 @@ mod settings;
 mod text;
 
 pub use key::{RecordKey, path_of};
+pub use laws::{keys_differ, texts_read_back};
 pub use range::takes_value;
 pub use record::NodeRecord;
 pub use schema::{Part, Range, Setting, is_open};

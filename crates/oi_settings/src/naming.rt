@@ -2,6 +2,7 @@ ghost use Rattle.std.specs.Prelude.{◌≡◌, ◌≤◌, Some, IfOk};
 ghost use Rattle.oi_base.specs.Decimal.{IsNumber, IsNumberOf};
 ghost use Rattle.oi_names.specs.Names.{IsName};
 ghost use Rattle.oi_names.specs.Portals.{IsAddress, lower_case};
+ghost use Rattle.oi_settings.specs.Keys.{IsKey};
 ghost use Rattle.oi_settings.specs.Pairs.{value_of};
 ghost use Rattle.oi_settings.specs.Schema.{IsPart, table};
 ghost use Rattle.oi_settings.specs.Texts.{ArePairs, IsKeyOf, part_name};
@@ -17,7 +18,7 @@ use std::alloc::Global;
 /// The key that the settings name.
 pub fn key_of(alloc: Global, settings: &Settings) -> Result<RecordKey, NoMemory>
     requires { ArePairs table settings.now }
-    ensures { IfOk result (λ k. IsKeyOf settings.now k) }
+    ensures { IfOk result (λ k. IsKey k × IsKeyOf settings.now k) }
 {
     let target = target_of(alloc, text_of(settings, Part::Target))?;
     let tag = tag_of(text_of(settings, Part::Tag));

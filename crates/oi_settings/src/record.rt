@@ -2,7 +2,7 @@ ghost use Rattle.std.specs.Prelude.{◌≡◌, ◌<◌, ◌++◌, ℕ, List, Non
 ghost use Rattle.std.specs.Fmt.{decimal};
 ghost use Rattle.oi_settings.specs.Pairs.{AreOnce, put, value_of};
 ghost use Rattle.oi_settings.specs.Schema.{Takes, fresh_pairs, initial_by, is_open, part_text, row_named, table};
-ghost use Rattle.oi_settings.specs.Texts.{IsLine, IsNode, text_of};
+ghost use Rattle.oi_settings.specs.Texts.{IsLine, IsNode, lines_of, text_of};
 
 use crate::key::RecordKey;
 use crate::line::append_line;
@@ -126,10 +126,21 @@ fn fresh_settings(alloc: Global, key: &RecordKey) -> Result<Settings, NoMemory>
 {
     let mut fresh = Settings::new(alloc);
     for setting in settings_of(Schema::Second) {
-        let name = Vec::from_slice(alloc, setting.name)?;
-        fresh.put(name, initial_value(alloc, setting, key)?)?;
+        put_initial(alloc, setting, key, &mut fresh)?;
     }
     Ok(fresh)
+}
+
+fn put_initial(
+    alloc: Global,
+    setting: &Setting,
+    key: &RecordKey,
+    fresh: &mut Settings,
+) -> Result<(), NoMemory>
+    ensures { OnOk result (fresh.new ≡ put setting.now.name.now (initial_by setting.now.range setting.now.initial.now key.now) fresh.old) }
+{
+    let name = Vec::from_slice(alloc, setting.name)?;
+    fresh.put(name, initial_value(alloc, setting, key)?)
 }
 
 fn initial_value(alloc: Global, setting: &Setting, key: &RecordKey) -> Result<Label, NoMemory>
@@ -180,10 +191,21 @@ fn append_text(settings: &Settings, out: &mut Vec<u8>) -> Result<(), NoMemory>
     ensures err { OnErr result ((more : List ℕ) × (out.new.items ≡ out.old.items ++ more)) }
 {
     out.extend_from_slice(b"# BEGIN RECORD 2\n")?;
+    append_lines(settings, out)?;
+    out.extend_from_slice(b"# END RECORD\n")?;
+    Ok(())
+}
+
+fn append_lines(settings: &Settings, out: &mut Vec<u8>) -> Result<(), NoMemory>
+    ensures ok { OnOk result (out.new.items ≡ out.old.items ++ lines_of settings.now) }
+    ensures err { OnErr result ((more : List ℕ) × (out.new.items ≡ out.old.items ++ more)) }
+{
     for at in 0..settings.len() {
         let (name, value) = settings.pair(at);
-        append_line(name, value, out)?;
+        match append_line(name, value, out) {
+            Ok(()) => {}
+            Err(fault) => return Err(fault),
+        }
     }
-    out.extend_from_slice(b"# END RECORD\n")?;
     Ok(())
 }
