@@ -1,5 +1,5 @@
 -- Fresh records.
-use Rattle.std.proofs.Common.{◌≡◌, ℕ, zero, suc, ◌+◌, ◌<◌, ◌≤◌, ◌^◌, ◌⊎◌, inl, inr, Bool, true, false, true≢false, cond, bytes_eq, is_some, unwrap_or, option_map, Option, Some, None, List, [], ◌∷◌, ◌++◌, length, map, take, refl, sym, ap, ◌∙◌, subst, arith, length-append}
+use Rattle.std.proofs.Common.{◌≡◌, ℕ, zero, suc, ◌+◌, ◌≤◌, inl, inr, Bool, true, false, true≢false, cond, bytes_eq, is_some, unwrap_or, option_map, Option, Some, None, List, [], ◌∷◌, ◌++◌, length, map, take, refl, sym, ap, ◌∙◌, subst, arith, length-append}
 use Rattle.std.specs.Prelude.{IfSome, slice_get}
 use Rattle.std.specs.Fmt.{decimal}
 use Rattle.std.specs.List.{list_all}
@@ -12,12 +12,12 @@ use Rattle.oi_names.proofs.Readings.{again}
 use Rattle.oi_settings.specs.declared.schema.Part.{Part}
 use Rattle.oi_settings.specs.declared.schema.Part.TheVariants.{Target, Tag, Address, Port, Interface}
 use Rattle.oi_settings.specs.declared.schema.Range.{Range}
-use Rattle.oi_settings.specs.declared.schema.Range.TheVariants.{OfKey, Number, NumberOrNever, YesNo, Startup, Method, Secret}
+use Rattle.oi_settings.specs.declared.schema.Range.TheVariants.{OfKey, Number, NumberOrNever, YesNo, Startup, Method, Credential}
 use Rattle.oi_settings.specs.declared.schema.Setting.{Setting}
 use Rattle.oi_settings.specs.Keys.{IsKey, IsRead, Key}
 use Rattle.oi_settings.specs.Pairs.{AreOnce, Pair, has_name, put, value_of}
-use Rattle.oi_settings.specs.Schema.{IsIn, IsPart, Row, Takes, fresh_pairs, initial_by, is_of_key, part_text, row_named, row_of, table}
-use Rattle.oi_settings.specs.Texts.{AreLines, ArePairs, IsKeyOf, IsLine, IsNode, Names, Node, is_value_byte, part_name}
+use Rattle.oi_settings.specs.Schema.{IsIn, IsPart, Row, fresh_pairs, initial_by, is_of_key, part_text, row_of, table}
+use Rattle.oi_settings.specs.Texts.{AreLines, IsKeyOf, IsNode}
 use Rattle.oi_settings.proofs.PairLists.{name_itself, put-new, same_name}
 use Rattle.oi_settings.proofs.Tables.{AreNamed, Fits, all_fit, fits_in, is_in_from, named, row_fits}
 use Rattle.oi_settings.proofs.Values.{value_in}
@@ -60,7 +60,7 @@ initial_by_in (NumberOrNever high) text key is other = other refl
 initial_by_in YesNo text key is other = other refl
 initial_by_in Startup text key is other = other refl
 initial_by_in Method text key is other = other refl
-initial_by_in Secret text key is other = other refl
+initial_by_in Credential text key is other = other refl
 
 initial_in : (r : Row) (key : Key) → IsKey key → Fits r → IsIn r.range (initial_by r.range r.initial key)
 initial_in r key is fits = initial_by_in r.range r.initial key is (λ other. is_in_from r.range r.initial other fits.starts)
@@ -80,9 +80,82 @@ lines_of_rows key is (r ∷ rs) all (name, names) =
     )
 
 once_fresh : (key : Key) → AreOnce (fresh_pairs key)
-once_fresh key =
-    (refl, (refl, (refl, (refl, (refl, (refl, (refl, (refl, (refl, (refl, (refl, (refl, (refl, (refl, (refl, (refl, (refl, (refl, (refl, (refl, (refl, (refl, (refl, (refl, (refl,
-    (refl, (refl, (refl, (refl, (refl, tt))))))))))))))))))))))))))))))
+once_fresh key = (
+  refl,
+  (
+    refl,
+    (
+      refl,
+      (
+        refl,
+        (
+          refl,
+          (
+            refl,
+            (
+              refl,
+              (
+                refl,
+                (
+                  refl,
+                  (
+                    refl,
+                    (
+                      refl,
+                      (
+                        refl,
+                        (
+                          refl,
+                          (
+                            refl,
+                            (
+                              refl,
+                              (
+                                refl,
+                                (
+                                  refl,
+                                  (
+                                    refl,
+                                    (
+                                      refl,
+                                      (
+                                        refl,
+                                        (
+                                          refl,
+                                          (
+                                            refl,
+                                            (
+                                              refl,
+                                              (
+                                                refl,
+                                                (
+                                                  refl,
+                                                  (refl, (refl, (refl, (refl, (refl, tt))))),
+                                                ),
+                                              ),
+                                            ),
+                                          ),
+                                        ),
+                                      ),
+                                    ),
+                                  ),
+                                ),
+                              ),
+                            ),
+                          ),
+                        ),
+                      ),
+                    ),
+                  ),
+                ),
+              ),
+            ),
+          ),
+        ),
+      ),
+    ),
+  ),
+)
 
 key_fresh : (key : Key) → IsKey key → IsKeyOf (fresh_pairs key) key
 key_fresh key is Target = (key.target, refl, refl)

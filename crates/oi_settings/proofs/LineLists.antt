@@ -1,13 +1,13 @@
 -- Lists of lines: a text is one list of lines at most, and what tells its first bad line.
-use Rattle.std.proofs.Common.{◌≡◌, ℕ, ◌+◌, ◌<◌, Bool, true, false, true≢false, List, [], ◌∷◌, ◌++◌, length, get_or, take, drop, Some, slice_get, refl, sym, ap, ◌∙◌, subst, arith, append_assoc, codes}
+use Rattle.std.proofs.Common.{◌≡◌, ℕ, ◌+◌, false, List, [], ◌∷◌, ◌++◌, length, get_or, take, drop, Some, slice_get, refl, sym, ap, ◌∙◌, subst, arith, append_assoc}
 use Rattle.std.specs.List.{prefix_len}
 use Rattle.std.proofs.lemmas.List.{append-nil, take_more}
 use Rattle.std.proofs.lemmas.Option.{get_or_from_slice_get, slice_get_within}
 use Rattle.std.proofs.lemmas.List.Concat.{flat_map-append}
 use Rattle.oi_names.proofs.Lists.{split_same}
 use Rattle.oi_settings.specs.Pairs.{Pair, has_name, put}
-use Rattle.oi_settings.specs.Schema.{Row, Takes}
-use Rattle.oi_settings.specs.Texts.{AreLines, IsLine, IsNext, NoEnd, NoLine, NoLineText, IsComplete, end_line, is_name_byte, is_value_byte, line_text, lines_of}
+use Rattle.oi_settings.specs.Schema.{Row}
+use Rattle.oi_settings.specs.Texts.{AreLines, IsLine, IsNext, NoLine, NoLineText, end_line, is_value_byte, line_text, lines_of}
 use Rattle.oi_settings.proofs.LineTexts.{behind_name, line_is, reads}
 use Rattle.oi_settings.proofs.PairLists.{put-new}
 

@@ -1,9 +1,9 @@
 -- The newest setting in the pairs of a text of the first schema.
-use Rattle.std.proofs.Common.{◌≡◌, ℕ, ◌<◌, ◌≤◌, Bool, true, false, true≢false, cond, ◌||◌, ◌&&◌, Option, Some, None, is_some, unwrap_or, List, [], ◌∷◌, ◌++◌, length, take, refl, sym, ap, ◌∙◌, subst, arith, codes, bytes_eq}
+use Rattle.std.proofs.Common.{◌≡◌, ℕ, Bool, true, false, true≢false, cond, ◌&&◌, Option, Some, None, is_some, unwrap_or, List, [], ◌∷◌, ◌++◌, refl, sym, ap, ◌∙◌, subst, arith, codes, bytes_eq}
 use Rattle.std.specs.Prelude.{IfSome, if◌then◌else◌}
 use Rattle.std.specs.Option.{option_or}
-use Rattle.std.specs.List.{find, list_all}
-use Rattle.std.proofs.lemmas.Bool.{and_from, and_parts}
+use Rattle.std.specs.List.{list_all}
+use Rattle.std.proofs.lemmas.Bool.{and_from}
 use Rattle.std.proofs.lemmas.List.Folds.{find-append, list_all-append}
 use Rattle.oi_settings.specs.declared.schema.Range.TheVariants.{YesNo}
 use Rattle.oi_settings.specs.declared.schema.Schema.{Schema}
@@ -41,7 +41,7 @@ lines_more [] lines once choice = tt
 lines_more (p ∷ ps) (line, taken, lines) (alone, once) choice = go (bytes_eq newest.name p.0) refl choice (lines_more ps lines once)
   where
     go : (b : Bool) → bytes_eq newest.name p.0 ≡ b → ((v : List ℕ) → cond b (Some p.1) (value_of newest.name ps) ≡ Some v → IsIn YesNo v)
-       → (((v : List ℕ) → value_of newest.name ps ≡ Some v → IsIn YesNo v) → AreLines table ps) → IsLine p.0 p.1 × Takes table p.0 p.1 × AreLines table ps
+        → (((v : List ℕ) → value_of newest.name ps ≡ Some v → IsIn YesNo v) → AreLines table ps) → IsLine p.0 p.1 × Takes table p.0 p.1 × AreLines table ps
     go true e choose rest = (
       line,
       takes_more p.0 p.1 taken (λ here. choose p.1 refl),
@@ -73,8 +73,8 @@ module _ (ps : List Pair) (are : ArePairs (rows_of First) ps) where
       let there : value_of newest.name (put newest.name newest.initial ps) ≡ Some newest.initial = has_put newest.name newest.initial ps in
       record {
         lines =
-        lines_more (put newest.name newest.initial ps) (AreLines-put (rows_of First) newest.name newest.initial ps are.lines newest_line tt) (AreOnce-put newest.name newest.initial ps are.once)
-        (λ w other. chosen w (ap is_choice (sym other ∙ there)));
+            lines_more (put newest.name newest.initial ps) (AreLines-put (rows_of First) newest.name newest.initial ps are.lines newest_line tt) (AreOnce-put newest.name newest.initial ps are.once)
+            (λ w other. chosen w (ap is_choice (sym other ∙ there)));
         once = AreOnce-put newest.name newest.initial ps are.once;
         complete = complete_more (put newest.name newest.initial ps) (IsComplete-put (rows_of First) newest.name newest.initial ps are.complete) (ap is_some there);
       }

@@ -1,10 +1,10 @@
 -- Records with another value of one name.
-use Rattle.std.proofs.Common.{◌≡◌, ℕ, Bool, false, cond, Result, Ok, Err, OnOk, OnErr, Option, Some, List, sym, ap, ◌∙◌, subst, bytes_eq}
+use Rattle.std.proofs.Common.{◌≡◌, ℕ, Bool, false, cond, Result, Ok, Err, OnOk, OnErr, Some, List, sym, ap, ◌∙◌, subst, bytes_eq}
 use Rattle.oi_settings.specs.declared.schema.Part.{Part}
 use Rattle.oi_settings.specs.Keys.{Key}
 use Rattle.oi_settings.specs.Pairs.{Pair, put, value_of}
 use Rattle.oi_settings.specs.Schema.{Takes, table}
-use Rattle.oi_settings.specs.Texts.{IsKeyOf, IsLine, IsNode, Names, Node, part_name}
+use Rattle.oi_settings.specs.Texts.{IsKeyOf, IsLine, IsNode, part_name}
 use Rattle.oi_settings.proofs.PairLists.{ArePairs-put, value_of-put}
 
 key_put : (ps : List Pair) (key : Key) (n v : List ℕ) → IsKeyOf ps key → ((part : Part) → bytes_eq (part_name part) n ≡ false) → IsKeyOf (put n v ps) key

@@ -1,5 +1,5 @@
 -- Lists of names with values: what stays when a value is put.
-use Rattle.std.proofs.Common.{◌≡◌, ℕ, Bool, true, false, true≢false, cond, Option, Some, None, is_some, unwrap_or, List, [], ◌∷◌, ◌++◌, refl, sym, ap, ◌∙◌, subst, bytes_eq, ◌+◌, length, length-append}
+use Rattle.std.proofs.Common.{◌≡◌, ℕ, Bool, true, false, true≢false, cond, Option, Some, is_some, unwrap_or, List, [], ◌∷◌, ◌++◌, refl, sym, ap, ◌∙◌, subst, bytes_eq, ◌+◌, length, length-append}
 use Rattle.std.specs.List.{list_all}
 use Rattle.std.proofs.lemmas.Bool.{and_from, and_parts}
 use Rattle.std.proofs.lemmas.Slice.Eq.{bytes_eq-Decides}
@@ -37,7 +37,7 @@ value_of-put m n v [] = refl
 value_of-put m n v (p ∷ ps) = go (bytes_eq n p.0) refl (value_of-put m n v ps)
   where
     go : (b : Bool) → bytes_eq n p.0 ≡ b → value_of m (put n v ps) ≡ cond (bytes_eq m n) (Some v) (value_of m ps)
-       → value_of m (cond b ((p.0, v) ∷ ps) (p ∷ put n v ps)) ≡ cond (bytes_eq m n) (Some v) (cond (bytes_eq m p.0) (Some p.1) (value_of m ps))
+        → value_of m (cond b ((p.0, v) ∷ ps) (p ∷ put n v ps)) ≡ cond (bytes_eq m n) (Some v) (cond (bytes_eq m p.0) (Some p.1) (value_of m ps))
     go true e rest = both_same (bytes_eq m p.0) (bytes_eq m n) v p.1 (value_of m ps) (ap (bytes_eq m) (sym (same_name n p.0 e)))
     go false e rest =
         one_of_both (bytes_eq m p.0) (bytes_eq m n) v p.1 (value_of m ps) (value_of m (put n v ps))
@@ -59,7 +59,7 @@ put-new n v [] e = refl
 put-new n v (p ∷ ps) e = go (bytes_eq n p.0) e (put-new n v ps)
   where
     go : (b : Bool) → is_some (cond b (Some p.1) (value_of n ps)) ≡ false → (has_name n ps ≡ false → put n v ps ≡ ps ++ (n, v) ∷ [])
-       → cond b ((p.0, v) ∷ ps) (p ∷ put n v ps) ≡ p ∷ (ps ++ (n, v) ∷ [])
+        → cond b ((p.0, v) ∷ ps) (p ∷ put n v ps) ≡ p ∷ (ps ++ (n, v) ∷ [])
     go true h rest = absurd (true≢false h)
     go false h rest = ap (λ (t : List Pair). p ∷ t) (rest h)
 

@@ -1,9 +1,7 @@
 -- Where a text stops to be one: behind one list of pairs at most.
-use Rattle.std.proofs.Common.{◌≡◌, ℕ, ◌+◌, ◌<◌, Bool, true, false, true≢false, cond, Option, Some, is_some, unwrap_or, List, [], ◌∷◌, ◌++◌, length, get_or, drop, refl, sym, ap, ◌∙◌, subst, arith, append_assoc, length-append, bytes_eq}
-use Rattle.std.specs.Fmt.{decimal}
+use Rattle.std.proofs.Common.{◌≡◌, ℕ, ◌+◌, Bool, true, false, true≢false, cond, Option, Some, is_some, unwrap_or, List, [], ◌∷◌, ◌++◌, length, get_or, drop, refl, sym, ap, ◌∙◌, subst, arith, append_assoc, length-append, bytes_eq}
 use Rattle.std.proofs.lemmas.Fmt.{decimal_injective}
 use Rattle.std.proofs.lemmas.List.{append-nil}
-use Rattle.oi_names.specs.declared.portal.Portal.{Portal}
 use Rattle.oi_names.specs.Portals.{lower_case}
 use Rattle.oi_settings.specs.declared.schema.Part.{Part}
 use Rattle.oi_settings.specs.declared.schema.Part.TheVariants.{Target, Tag, Address, Port, Interface}
@@ -12,7 +10,7 @@ use Rattle.oi_settings.specs.declared.schema.Schema.TheVariants.{First, Second}
 use Rattle.oi_settings.specs.Keys.{IsKey, Key}
 use Rattle.oi_settings.specs.Pairs.{AreOnce, Pair, has_name, value_of}
 use Rattle.oi_settings.specs.Schema.{Row}
-use Rattle.oi_settings.specs.Texts.{AreLines, ArePairs, BadLine, IsComplete, IsKeyOf, IsLine, IsNext, IsNode, IsStored, Names, NoEnd, NoLine, Node, bad_begin, bad_line, bad_rest, begin_line, end_line, line_text, lines_of, part_name, rows_of, stored_by, text_of}
+use Rattle.oi_settings.specs.Texts.{AreLines, ArePairs, BadLine, IsComplete, IsKeyOf, IsNext, IsNode, IsStored, NoEnd, NoLine, Node, bad_begin, bad_line, bad_rest, begin_line, end_line, line_text, lines_of, part_name, rows_of, stored_by, text_of}
 use Rattle.oi_settings.proofs.FreshPairs.{whole}
 use Rattle.oi_settings.proofs.LineLists.{Over, longer, no_line_end, no_line_here, over, plain, shorter}
 use Rattle.oi_settings.proofs.Migration.{stored_pairs}

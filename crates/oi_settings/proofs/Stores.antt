@@ -1,11 +1,11 @@
 -- Where the reader of a text stands: the faults that it tells.
-use Rattle.std.proofs.Common.{◌≡◌, ℕ, ◌+◌, ◌<◌, List, [], ◌∷◌, ◌++◌, length, refl, sym, ap, ◌∙◌, subst, arith}
+use Rattle.std.proofs.Common.{◌≡◌, ℕ, ◌+◌, ◌<◌, List, [], ◌++◌, length, refl, sym, ap, ◌∙◌, arith}
 use Rattle.std.proofs.lemmas.List.{append-nil}
 use Rattle.oi_base.specs.Counts.{told}
 use Rattle.oi_settings.specs.Pairs.{AreOnce, Pair}
 use Rattle.oi_settings.specs.declared.schema.Schema.{Schema}
 use Rattle.oi_settings.specs.declared.text.RecordFault.TheVariants.{Bad}
-use Rattle.oi_settings.specs.Texts.{AreLines, ArePairs, BadLine, IsComplete, IsFault, IsFaultBehind, NoEnd, NoLine, bad_line, bad_rest, begin_line, end_line, lines_of, rows_of}
+use Rattle.oi_settings.specs.Texts.{AreLines, ArePairs, IsComplete, IsFaultBehind, NoEnd, NoLine, bad_line, bad_rest, begin_line, end_line, lines_of, rows_of}
 use Rattle.oi_settings.proofs.LineLists.{no_line_end, no_line_here}
 
 module _ (schema : Schema) (text rest : List ℕ) (before : List Pair) (line : ℕ) (whole : text ≡ lines_of before ++ rest) (lines : AreLines (rows_of schema) before)

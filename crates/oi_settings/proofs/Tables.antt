@@ -1,19 +1,19 @@
 -- What holds of the rows of the table.
-use Rattle.std.proofs.Common.{◌≡◌, ℕ, zero, suc, ◌+◌, ◌-◌, ◌*◌, ◌/◌, ◌%◌, ◌<◌, ◌≤◌, ◌^◌, ◌⊎◌, inl, inr, Bool, true, false, true≢false, cond, ◌&&◌, ◌||◌, not, Option, Some, None, unwrap_or, List, [], ◌∷◌, ◌++◌, length, fold, refl, sym, ap, ◌∙◌, subst, arith, codes, bytes_eq}
+use Rattle.std.proofs.Common.{◌≡◌, ℕ, zero, suc, ◌+◌, ◌-◌, ◌*◌, ◌/◌, ◌%◌, ◌<◌, ◌≤◌, ◌^◌, inl, inr, Bool, true, false, true≢false, cond, ◌&&◌, ◌||◌, Option, Some, None, unwrap_or, List, [], ◌∷◌, ◌++◌, length, fold, refl, sym, ap, ◌∙◌, subst, arith, codes, bytes_eq}
 use Rattle.std.specs.Prelude.{IfSome, nat_le, nat_lt}
 use Rattle.std.specs.Fmt.{decimal}
 use Rattle.std.specs.List.{find, list_all}
-use Rattle.std.proofs.lemmas.Bool.{and_from, and_parts, leb-true, le-ltb, lt-ltb, ltb-true}
+use Rattle.std.proofs.lemmas.Bool.{and_parts, leb-true, le-ltb, lt-ltb, ltb-true}
 use Rattle.std.proofs.lemmas.Fmt.{AppendsLastDigit, decimal_from_appends, length-decimal-le}
 use Rattle.oi_base.specs.Decimal.{IsNumber}
 use Rattle.oi_settings.specs.declared.schema.Part.{Part}
 use Rattle.oi_settings.specs.declared.schema.Part.TheVariants.{Target, Tag, Address, Port, Interface}
 use Rattle.oi_settings.specs.declared.schema.Range.{Range}
-use Rattle.oi_settings.specs.declared.schema.Range.TheVariants.{OfKey, Number, NumberOrNever, YesNo, Startup, Method, Secret}
-use Rattle.oi_settings.specs.Pairs.{Pair, has_name, value_of}
-use Rattle.oi_settings.specs.Schema.{IsIn, IsPart, IsWord, Row, Takes, is_of_key, is_open, is_open_row, is_secret_byte, row_named, table}
-use Rattle.oi_settings.specs.Texts.{IsComplete, IsLine, is_name_byte, is_value_byte, part_name}
-use Rattle.oi_settings.proofs.PairLists.{name_itself, same_name}
+use Rattle.oi_settings.specs.declared.schema.Range.TheVariants.{OfKey, Number, NumberOrNever, YesNo, Startup, Method, Credential}
+use Rattle.oi_settings.specs.Pairs.{Pair, has_name}
+use Rattle.oi_settings.specs.Schema.{IsIn, IsPart, IsWord, Row, Takes, is_of_key, is_open, is_open_row, is_credential_byte, row_named, table}
+use Rattle.oi_settings.specs.Texts.{IsComplete, IsLine, is_name_byte, part_name}
+use Rattle.oi_settings.proofs.PairLists.{same_name}
 use Rattle.oi_settings.proofs.Values.{is_small, value_in}
 
 -- the digits of a number, the last one behind those before it
@@ -69,7 +69,7 @@ starts_in (NumberOrNever high) text = is_number 0 high text
 starts_in YesNo text = is_word (codes "Yes") (codes "No") text
 starts_in Startup text = is_word (codes "manual") (codes "automatic") text
 starts_in Method text = is_word (codes "None") (codes "CHAP") text
-starts_in Secret text = nat_le (length text) 255 && list_all is_secret_byte text
+starts_in Credential text = nat_le (length text) 255 && list_all is_credential_byte text
 
 pub is_in_from : (range : Range) (text : List ℕ) → is_of_key range ≡ false → starts_in range text ≡ true → IsIn range text
 unfolding starts_in is_word
@@ -79,8 +79,8 @@ is_in_from (NumberOrNever high) text not_key is = inr (number_from 0 high text i
 is_in_from YesNo text not_key is = word_from (codes "Yes") (codes "No") text is
 is_in_from Startup text not_key is = word_from (codes "manual") (codes "automatic") text is
 is_in_from Method text not_key is = word_from (codes "None") (codes "CHAP") text is
-is_in_from Secret text not_key is =
-    let both = and_parts (nat_le (length text) 255) (list_all is_secret_byte text) is in (leb-true (length text) 255 both.0, both.1)
+is_in_from Credential text not_key is =
+    let both = and_parts (nat_le (length text) 255) (list_all is_credential_byte text) is in (leb-true (length text) 255 both.0, both.1)
 
 -- whether the name fits a line
 pub is_fine : List ℕ → Bool
@@ -131,9 +131,82 @@ AreNamed [] = Unit {0}
 AreNamed (r ∷ rs) = (row_named r.name table ≡ Some r) × AreNamed rs
 
 pub named : AreNamed table
-named =
-    (refl, (refl, (refl, (refl, (refl, (refl, (refl, (refl, (refl, (refl, (refl, (refl, (refl, (refl, (refl, (refl, (refl, (refl, (refl, (refl, (refl, (refl, (refl, (refl, (refl,
-    (refl, (refl, (refl, (refl, (refl, tt))))))))))))))))))))))))))))))
+named = (
+  refl,
+  (
+    refl,
+    (
+      refl,
+      (
+        refl,
+        (
+          refl,
+          (
+            refl,
+            (
+              refl,
+              (
+                refl,
+                (
+                  refl,
+                  (
+                    refl,
+                    (
+                      refl,
+                      (
+                        refl,
+                        (
+                          refl,
+                          (
+                            refl,
+                            (
+                              refl,
+                              (
+                                refl,
+                                (
+                                  refl,
+                                  (
+                                    refl,
+                                    (
+                                      refl,
+                                      (
+                                        refl,
+                                        (
+                                          refl,
+                                          (
+                                            refl,
+                                            (
+                                              refl,
+                                              (
+                                                refl,
+                                                (
+                                                  refl,
+                                                  (refl, (refl, (refl, (refl, (refl, tt))))),
+                                                ),
+                                              ),
+                                            ),
+                                          ),
+                                        ),
+                                      ),
+                                    ),
+                                  ),
+                                ),
+                              ),
+                            ),
+                          ),
+                        ),
+                      ),
+                    ),
+                  ),
+                ),
+              ),
+            ),
+          ),
+        ),
+      ),
+    ),
+  ),
+)
 
 pub fits_in : (rs : List Row) → list_all row_fits rs ≡ true → (r : Row) (rest : List Row) → rs ≡ r ∷ rest → Fits r × (list_all row_fits rest ≡ true)
 fits_in rs all r rest is =

@@ -1,19 +1,17 @@
 -- Values of a range have no line feed.
-use Rattle.std.proofs.Common.{◌≡◌, ℕ, ◌+◌, ◌<◌, ◌≤◌, ◌^◌, ◌⊎◌, inl, inr, Bool, true, false, ◌==◌, not, ◌&&◌, List, [], ◌∷◌, ◌++◌, refl, sym, ap, ◌∙◌, subst, arith, codes}
-use Rattle.std.specs.Fmt.{decimal}
+use Rattle.std.proofs.Common.{◌≡◌, ℕ, ◌^◌, inl, inr, Bool, true, false, ◌==◌, not, List, [], ◌∷◌, ◌++◌, refl, sym, ap, ◌∙◌, subst, arith, codes}
 use Rattle.std.specs.List.{list_all}
 use Rattle.std.proofs.lemmas.Bool.{and_from, and_parts, ltb-true}
 use Rattle.std.proofs.lemmas.Bool.Decides.{nat_tests}
 use Rattle.std.specs.Prelude.{nat_lt}
-use Rattle.oi_base.specs.Decimal.{IsNumber}
-use Rattle.oi_names.specs.Names.{IsIface, IsName, eui, iqn, is_iface_byte, is_name_byte, naa}
+use Rattle.oi_names.specs.Names.{IsName, eui, iqn, is_iface_byte, is_name_byte, naa}
 use Rattle.oi_names.specs.Portals.{IsAddress, is_inner}
 use Rattle.oi_names.proofs.Alphabets.{Lacks, NoDigit, lacks_all, lacks_append, lacks_dotted, lacks_number}
 use Rattle.oi_settings.specs.declared.schema.Part.{Part}
 use Rattle.oi_settings.specs.declared.schema.Part.TheVariants.{Target, Tag, Address, Port, Interface}
 use Rattle.oi_settings.specs.declared.schema.Range.{Range}
-use Rattle.oi_settings.specs.declared.schema.Range.TheVariants.{OfKey, Number, NumberOrNever, YesNo, Startup, Method, Secret}
-use Rattle.oi_settings.specs.Schema.{IsIn, IsPart, IsWord, is_secret_byte}
+use Rattle.oi_settings.specs.declared.schema.Range.TheVariants.{OfKey, Number, NumberOrNever, YesNo, Startup, Method, Credential}
+use Rattle.oi_settings.specs.Schema.{IsIn, IsPart, IsWord, is_credential_byte}
 use Rattle.oi_settings.specs.Texts.{is_value_byte}
 
 -- no digit, letter of a name, or inner byte of an address is this byte
@@ -80,11 +78,11 @@ one_word : (first second value : List ℕ) → list_all is_value_byte first ≡ 
 one_word first second value a b (inl is) = subst (λ (t : List ℕ). list_all is_value_byte t ≡ true) (sym is) a
 one_word first second value a b (inr is) = subst (λ (t : List ℕ). list_all is_value_byte t ≡ true) (sym is) b
 
-secret_value : (xs : List ℕ) → list_all is_secret_byte xs ≡ true → list_all is_value_byte xs ≡ true
-secret_value [] all = refl
-secret_value (x ∷ xs) all =
-    let both = and_parts (is_secret_byte x) (list_all is_secret_byte xs) all in
-    and_from (is_value_byte x) (list_all is_value_byte xs) (and_parts (not (x == 0)) (not (x == 10)) both.0).1 (secret_value xs both.1)
+credential_value : (xs : List ℕ) → list_all is_credential_byte xs ≡ true → list_all is_value_byte xs ≡ true
+credential_value [] all = refl
+credential_value (x ∷ xs) all =
+    let both = and_parts (is_credential_byte x) (list_all is_credential_byte xs) all in
+    and_from (is_value_byte x) (list_all is_value_byte xs) (and_parts (not (x == 0)) (not (x == 10)) both.0).1 (credential_value xs both.1)
 
 pub value_in : (range : Range) (value : List ℕ) → is_small range ≡ true → IsIn range value → list_all is_value_byte value ≡ true
 value_in (OfKey part) value small is = lacks_part 10 line_feed part value is
@@ -94,4 +92,4 @@ value_in (NumberOrNever high) value small (inr is) = lacks_number 10 no_digit_fe
 value_in YesNo value small is = one_word (codes "Yes") (codes "No") value refl refl is
 value_in Startup value small is = one_word (codes "manual") (codes "automatic") value refl refl is
 value_in Method value small is = one_word (codes "None") (codes "CHAP") value refl refl is
-value_in Secret value small is = secret_value value is.1
+value_in Credential value small is = credential_value value is.1

@@ -1,8 +1,8 @@
 -- The order of keys is total.
-use Rattle.std.specs.Cmp.{IsEquivalence, IsPartialEquivalence, IsPartialOrder, IsTotalOrder, eq_by_cmp_equiv, nat_cmp_total, on_total, partial_equiv_from_equiv, partial_order_from_total, then_total}
-use Rattle.std.specs.Cmp.Lexicographic.{nat_list_cmp_total, slice_cmp}
-use Rattle.std.specs.Ordering.{as_partial_cmp, eq_by_cmp, nat_cmp, on, then_cmp}
-use Rattle.oi_settings.specs.Keys.{Key, key_cmp}
+use Rattle.std.specs.Cmp.{IsEquivalence, IsPartialEquivalence, IsTotalOrder, eq_by_cmp_equiv, nat_cmp_total, on_total, partial_equiv_from_equiv, then_total}
+use Rattle.std.specs.Cmp.Lexicographic.{nat_list_cmp_total}
+use Rattle.std.specs.Ordering.{eq_by_cmp}
+use Rattle.oi_settings.specs.Keys.{key_cmp}
 
 pub key_total : IsTotalOrder key_cmp
 key_total =

@@ -1,5 +1,5 @@
 -- The settings that each node record has.
-use Rattle.std.specs.Prelude.{◌≡◌, ◌≤◌, ◌⊎◌, ℕ, Bool, true, false, not, ◌==◌, ◌&&◌, Option, Some, None, IfSome, List, [], ◌∷◌, map, take, length, codes, bytes_eq}
+use Rattle.std.specs.Prelude.{◌≡◌, ◌≤◌, ◌⊎◌, ℕ, Bool, true, false, not, ◌==◌, ◌&&◌, Option, Some, None, IfSome, List, [], ◌∷◌, map, length, codes, bytes_eq}
 use Rattle.std.specs.Fmt.{decimal}
 use Rattle.std.specs.List.{find, list_all}
 use Rattle.oi_base.specs.Decimal.{IsNumber}
@@ -11,7 +11,7 @@ use Rattle.oi_settings.specs.Pairs.{Pair}
 use Rattle.oi_settings.specs.declared.schema.Part.{Part}
 use Rattle.oi_settings.specs.declared.schema.Part.TheVariants.{Target, Tag, Address, Port, Interface}
 use Rattle.oi_settings.specs.declared.schema.Range.{Range}
-use Rattle.oi_settings.specs.declared.schema.Range.TheVariants.{OfKey, Number, NumberOrNever, YesNo, Startup, Method, Secret}
+use Rattle.oi_settings.specs.declared.schema.Range.TheVariants.{OfKey, Number, NumberOrNever, YesNo, Startup, Method, Credential}
 use Rattle.oi_settings.specs.declared.schema.Setting.{Setting}
 
 -- one row: a name, its value in a fresh record, and the values that it may have. What comes from the key has no text here.
@@ -36,10 +36,10 @@ table =
     ∷ record { name = codes "iface.iscsi_ifacename"; initial = []; range = OfKey Interface }
     ∷ record { name = codes "node.startup"; initial = codes "manual"; range = Startup }
     ∷ record { name = codes "node.session.auth.authmethod"; initial = codes "None"; range = Method }
-    ∷ record { name = codes "node.session.auth.username"; initial = []; range = Secret }
-    ∷ record { name = codes "node.session.auth.password"; initial = []; range = Secret }
-    ∷ record { name = codes "node.session.auth.username_in"; initial = []; range = Secret }
-    ∷ record { name = codes "node.session.auth.password_in"; initial = []; range = Secret }
+    ∷ record { name = codes "node.session.auth.username"; initial = []; range = Credential }
+    ∷ record { name = codes "node.session.auth.password"; initial = []; range = Credential }
+    ∷ record { name = codes "node.session.auth.username_in"; initial = []; range = Credential }
+    ∷ record { name = codes "node.session.auth.password_in"; initial = []; range = Credential }
     ∷ record { name = codes "node.session.timeo.replacement_timeout"; initial = codes "120"; range = NumberOrNever most_replacement }
     ∷ record { name = codes "node.conn[0].timeo.login_timeout"; initial = codes "15"; range = Number 1 most_seconds }
     ∷ record { name = codes "node.conn[0].timeo.logout_timeout"; initial = codes "15"; range = Number 1 most_seconds }
@@ -82,8 +82,8 @@ abbrev pub IsWord : List ℕ → List ℕ → List ℕ → Type 0
 IsWord first second value = (value ≡ first) ⊎ (value ≡ second)
 
 -- every byte but zero and the line feed
-abbrev pub is_secret_byte : ℕ → Bool
-is_secret_byte c = not (c == 0) && not (c == 10)
+abbrev pub is_credential_byte : ℕ → Bool
+is_credential_byte c = not (c == 0) && not (c == 10)
 
 -- the values of a range
 abbrev pub IsIn : Range → List ℕ → Type 0
@@ -93,7 +93,7 @@ IsIn (NumberOrNever high) value = (value ≡ codes "-1") ⊎ IsNumber 0 high val
 IsIn YesNo value = IsWord (codes "Yes") (codes "No") value
 IsIn Startup value = IsWord (codes "manual") (codes "automatic") value
 IsIn Method value = IsWord (codes "None") (codes "CHAP") value
-IsIn Secret value = (length value ≤ 255) × (list_all is_secret_byte value ≡ true)
+IsIn Credential value = (length value ≤ 255) × (list_all is_credential_byte value ≡ true)
 
 -- the row with this name
 abbrev pub row_named : List ℕ → List Row → Option Row

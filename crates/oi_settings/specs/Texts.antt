@@ -1,5 +1,5 @@
 -- The text of a node record: the line `# BEGIN RECORD 2`, lines `NAME = VALUE`, and the line `# END RECORD`.
-use Rattle.std.specs.Prelude.{◌≡◌, ◌<◌, ◌≤◌, ◌+◌, ◌||◌, ◌&&◌, ◌==◌, not, ℕ, Bool, true, false, Option, Some, None, is_some, List, [], ◌∷◌, ◌++◌, take, length, codes, bytes_eq, if◌then◌else◌}
+use Rattle.std.specs.Prelude.{◌≡◌, ◌<◌, ◌≤◌, ◌+◌, ◌||◌, ◌==◌, not, ℕ, Bool, true, false, Option, Some, None, List, [], ◌∷◌, ◌++◌, take, length, codes, bytes_eq, if◌then◌else◌}
 use Rattle.std.specs.List.{flat_map, list_all}
 use Rattle.oi_base.specs.Counts.{told}
 use Rattle.oi_names.specs.Portals.{lower_case}
@@ -143,11 +143,11 @@ NoEnd rows before rest = IsComplete rows before → (more : List ℕ) → rest �
 pub data BadLine (bytes : List ℕ) (line : ℕ) : Type 0 where
   bad_begin : line ≡ 1 → ((schema : Schema) (rest : List ℕ) → bytes ≡ begin_line schema ++ rest → ⊥) → BadLine bytes line
   bad_line : (schema : Schema) (before : List Pair) (rest : List ℕ) → line ≡ length before + 2
-    → bytes ≡ begin_line schema ++ (lines_of before ++ rest) → AreLines (rows_of schema) before → AreOnce before
-    → NoLine (rows_of schema) before rest → NoEnd (rows_of schema) before rest → BadLine bytes line
+      → bytes ≡ begin_line schema ++ (lines_of before ++ rest) → AreLines (rows_of schema) before → AreOnce before
+      → NoLine (rows_of schema) before rest → NoEnd (rows_of schema) before rest → BadLine bytes line
   bad_rest : (schema : Schema) (before : List Pair) (rest : List ℕ) → line ≡ length before + 3
-    → bytes ≡ begin_line schema ++ (lines_of before ++ (end_line ++ rest)) → ArePairs (rows_of schema) before
-    → 0 < length rest → BadLine bytes line
+      → bytes ≡ begin_line schema ++ (lines_of before ++ (end_line ++ rest)) → ArePairs (rows_of schema) before
+      → 0 < length rest → BadLine bytes line
 
 -- why bytes store no record
 abbrev pub IsFault : List ℕ → RecordFault → Type 0

@@ -3,7 +3,8 @@ ghost use Rattle.std.specs.Ordering.{as_partial_cmp, eq_by_cmp};
 ghost use Rattle.std.specs.Cmp.{partial_order_from_total};
 ghost use Rattle.std.proofs.Common.{rules};
 ghost use Rattle.oi_settings.specs.KeyOrder.{key_equiv, key_per, key_total};
-ghost use Rattle.oi_settings.specs.Keys.{key_cmp, path_text};
+ghost use Rattle.oi_names.specs.Names.{IsIface};
+ghost use Rattle.oi_settings.specs.Keys.{IsRead, key_cmp, path_text};
 
 use oi_base::{Label, NoMemory, write_number};
 use oi_names::{IscsiName, Portal};
@@ -81,6 +82,20 @@ impl Eq for RecordKey {
 }
 
 impl RecordKey {
+    /// The key of these parts.
+    pub fn new(target: IscsiName, portal: Portal, tag: u16, iface: Label) -> RecordKey
+        requires portal { IsRead portal }
+        requires iface { IsIface iface }
+        ensures { result ≡ record { target = target; portal = portal; tag = tag; iface = iface } }
+    {
+        RecordKey {
+            target,
+            portal,
+            tag,
+            iface,
+        }
+    }
+
     pub fn copy(&self, alloc: Global) -> Result<RecordKey, NoMemory>
         ensures { IfOk result (λ k. k ≡ self.now) }
     {

@@ -1,5 +1,6 @@
 ghost use Rattle.std.specs.Prelude.{◌≡◌, ℕ, List};
 ghost use Rattle.std.specs.Cmp.{IsTotalOrder};
+ghost use Rattle.std.specs.Str.{IsUtf8};
 ghost use Rattle.std.specs.declared.cmp.Ordering.TheVariants.{Equal};
 ghost use Rattle.oi_settings.specs.Keys.{IsKey, Key, key_cmp, path_text};
 ghost use Rattle.oi_settings.specs.Schema.{fresh_pairs};
@@ -17,10 +18,11 @@ pub fn texts_read_back()
     ensures fresh { (key : Key) → IsKey key → IsNode record { key = key; pairs = fresh_pairs key } }
 {}
 
-/// Laws of keys: the order is total and tells any two keys apart, and no two keys have one path. The function does
-/// nothing.
+/// Laws of keys: the order is total and tells any two keys apart, no two keys have one path, and a path is a text. The
+/// function does nothing.
 pub fn keys_differ()
     ensures total { IsTotalOrder key_cmp }
     ensures apart { (a b : Key) → key_cmp a b ≡ Equal → a ≡ b }
     ensures paths { (a b : Key) → IsKey a → IsKey b → path_text a ≡ path_text b → a ≡ b }
+    ensures text { (key : Key) → IsKey key → IsUtf8 (path_text key) }
 {}

@@ -10,11 +10,13 @@ mod range;
 mod record;
 mod schema;
 mod settings;
+#[cfg(test)]
+mod tests;
 mod text;
 
 pub use key::{RecordKey, path_of};
 pub use laws::{keys_differ, texts_read_back};
 pub use range::takes_value;
 pub use record::NodeRecord;
-pub use schema::{Part, Range, Setting, is_open};
+pub use schema::is_open;
 pub use text::{RecordFault, read_text};

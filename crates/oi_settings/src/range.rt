@@ -3,7 +3,7 @@ ghost use Rattle.std.specs.List.{list_all};
 ghost use Rattle.oi_base.specs.Decimal.{IsNumber};
 ghost use Rattle.oi_names.specs.Names.{IsName};
 ghost use Rattle.oi_names.specs.Portals.{IsAddress, lower_case};
-ghost use Rattle.oi_settings.specs.Schema.{IsIn, IsPart, IsWord, Takes, is_secret_byte, row_of, table};
+ghost use Rattle.oi_settings.specs.Schema.{IsIn, IsPart, IsWord, Takes, is_credential_byte, row_of, table};
 
 use crate::schema::{Part, Range, Schema, Setting, setting_named, settings_of};
 use oi_base::{Label, NoMemory, read_number};
@@ -42,7 +42,7 @@ fn is_in(alloc: Global, range: Range, value: &[u8]) -> Result<bool, NoMemory>
         Range::YesNo => Ok(is_yes_or_no(value)),
         Range::Startup => Ok(is_word(value, b"manual", b"automatic")),
         Range::Method => Ok(is_word(value, b"None", b"CHAP")),
-        Range::Secret => Ok(is_secret(value)),
+        Range::Credential => Ok(is_credential(value)),
     }
 }
 
@@ -61,10 +61,12 @@ fn is_part(alloc: Global, part: Part, value: &[u8]) -> Result<bool, NoMemory>
 fn is_name(alloc: Global, text: &[u8]) -> Result<bool, NoMemory>
     ensures { IfOk result (λ b. IsTrue b ↔ IsName text.now) }
 {
-    match IscsiName::read_bytes(alloc, text) {
-        Ok(_) => return Ok(true),
-        Err(NameFault::Bad { place: _ }) => return Ok(false),
-        Err(NameFault::Memory) => return Err(NoMemory),
+    let Err(fault) = IscsiName::read_bytes(alloc, text) else {
+        return Ok(true);
+    };
+    match fault {
+        NameFault::Bad { place: _ } => Ok(false),
+        NameFault::Memory => Err(NoMemory),
     }
 }
 
@@ -122,14 +124,14 @@ fn is_word(value: &[u8], first: &[u8], second: &[u8]) -> bool
     value == first || value == second
 }
 
-fn is_secret(value: &[u8]) -> bool
-    ensures { IsTrue result ↔ IsIn Range.Secret value.now }
+fn is_credential(value: &[u8]) -> bool
+    ensures { IsTrue result ↔ IsIn Range.Credential value.now }
 {
-    value.len() <= 255 && are_secret_bytes(value)
+    value.len() <= 255 && are_credential_bytes(value)
 }
 
-fn are_secret_bytes(value: &[u8]) -> bool
-    ensures { result ≡ list_all is_secret_byte value.now }
+fn are_credential_bytes(value: &[u8]) -> bool
+    ensures { result ≡ list_all is_credential_byte value.now }
 {
     value.iter().all(|byte| *byte != 0 && *byte != b'\n')
 }

@@ -63,7 +63,7 @@ impl NodeRecord {
     }
 
     /// How many names there are.
-    pub fn len(&self) -> usize
+    pub fn count(&self) -> usize
         ensures { result ≡ length self.now.pairs }
     {
         self.settings.len()

@@ -29,7 +29,7 @@ pub enum Range {
     /// `None` or `CHAP`.
     Method,
     /// At most 255 bytes, none of them zero or a line feed.
-    Secret,
+    Credential,
 }
 
 /// One setting: its name, its value in a fresh record, and the values that it may have. The text of a part of the key
@@ -89,22 +89,22 @@ static SETTINGS: [Setting; 30] = [
     Setting {
         name: b"node.session.auth.username",
         initial: b"",
-        range: Range::Secret,
+        range: Range::Credential,
     },
     Setting {
         name: b"node.session.auth.password",
         initial: b"",
-        range: Range::Secret,
+        range: Range::Credential,
     },
     Setting {
         name: b"node.session.auth.username_in",
         initial: b"",
-        range: Range::Secret,
+        range: Range::Credential,
     },
     Setting {
         name: b"node.session.auth.password_in",
         initial: b"",
-        range: Range::Secret,
+        range: Range::Credential,
     },
     Setting {
         name: b"node.session.timeo.replacement_timeout",
@@ -169,12 +169,18 @@ static SETTINGS: [Setting; 30] = [
     Setting {
         name: b"node.session.iscsi.FirstBurstLength",
         initial: b"262144",
-        range: Range::Number { low: 512, high: 16_777_215 },
+        range: Range::Number {
+            low: 512,
+            high: 16_777_215,
+        },
     },
     Setting {
         name: b"node.session.iscsi.MaxBurstLength",
         initial: b"16776192",
-        range: Range::Number { low: 512, high: 16_777_215 },
+        range: Range::Number {
+            low: 512,
+            high: 16_777_215,
+        },
     },
     Setting {
         name: b"node.session.iscsi.DefaultTime2Wait",
@@ -189,12 +195,18 @@ static SETTINGS: [Setting; 30] = [
     Setting {
         name: b"node.session.iscsi.MaxOutstandingR2T",
         initial: b"1",
-        range: Range::Number { low: 1, high: 65_535 },
+        range: Range::Number {
+            low: 1,
+            high: 65_535,
+        },
     },
     Setting {
         name: b"node.conn[0].iscsi.MaxRecvDataSegmentLength",
         initial: b"262144",
-        range: Range::Number { low: 512, high: 262_144 },
+        range: Range::Number {
+            low: 512,
+            high: 262_144,
+        },
     },
     Setting {
         name: b"node.session.oi.count_disrupted",

@@ -1,7 +1,6 @@
-use Rattle.std.proofs.Common.{◌≡◌, List, ℕ, Some, ap, subst, sym, ◌∙◌, arith}
+use Rattle.std.proofs.Common.{◌≡◌, List, ℕ, Some, subst, sym, arith}
 use Rattle.oi_names.specs.Names.{IsIface, IsName}
 use Rattle.oi_names.specs.Portals.{lower_case}
-use Rattle.oi_settings.specs.declared.schema.Part.{Part}
 use Rattle.oi_settings.specs.declared.schema.Part.TheVariants.{Target, Tag, Address, Port, Interface}
 use Rattle.oi_settings.specs.Keys.{Key}
 use Rattle.oi_settings.specs.Pairs.{Pair, value_of}
@@ -30,9 +29,9 @@ named_by ps key target tag address port iface a b d e f g h i j k Interface = (i
 pub returns : goal.returns
 returns c = (
   invariant_of-result c,
-    named_by c.args.settings.now
-    (record { target = c.in_ok-target.target; portal = record { address = c.in_ok-address.address; port = c.port_of-port.result }; tag = c.tag_of-tag.result; iface = c.in_ok-iface.iface })
-    c.text_of.result.now c.text_of-2.result.now c.text_of-3.result.now c.text_of-4.result.now c.text_of-5.result.now
-    c.text_of.ensures.value (sym c.in_ok-target.ensures) c.text_of-2.ensures.value c.tag_of-tag.ensures c.text_of-3.ensures.value c.in_ok-address.ensures
-    c.text_of-4.ensures.value c.port_of-port.ensures.number c.text_of-5.ensures.value (sym c.in_ok-iface.ensures),
+  named_by c.args.settings.now
+      (record { target = c.in_ok-target.target; portal = record { address = c.in_ok-address.address; port = c.port_of-port.result }; tag = c.tag_of-tag.result; iface = c.in_ok-iface.iface })
+      c.text_of.result.now c.text_of-2.result.now c.text_of-3.result.now c.text_of-4.result.now c.text_of-5.result.now
+      c.text_of.ensures.value (sym c.in_ok-target.ensures) c.text_of-2.ensures.value c.tag_of-tag.ensures c.text_of-3.ensures.value c.in_ok-address.ensures
+      c.text_of-4.ensures.value c.port_of-port.ensures.number c.text_of-5.ensures.value (sym c.in_ok-iface.ensures),
 )

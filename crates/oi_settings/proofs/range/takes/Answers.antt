@@ -1,4 +1,4 @@
-use Rattle.std.proofs.Common.{◌≡◌, ℕ, List, Option, ◌↔◌, IsTrue, IfOk, IfSome, subst}
+use Rattle.std.proofs.Common.{Option, ◌↔◌, IsTrue, IfOk, IfSome, subst}
 use Rattle.oi_settings.specs.Schema.{IsIn, Row}
 use Rattle.oi_settings.proofs.range.takes.Goals as goal
 

@@ -1,4 +1,4 @@
-use Rattle.std.proofs.Common.{◌≡◌, List, ◌↔◌, IsTrue, IfOk, subst}
+use Rattle.std.proofs.Common.{List, ◌↔◌, IsTrue, IfOk, subst}
 use Rattle.oi_settings.specs.Schema.{Row, Takes}
 use Rattle.oi_settings.proofs.range.takes_value.Goals as goal
 

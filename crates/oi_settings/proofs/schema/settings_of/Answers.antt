@@ -1,4 +1,4 @@
-use Rattle.std.proofs.Common.{◌≡◌, length, take, map, sym, ap, ◌∙◌, arith, length-take}
+use Rattle.std.proofs.Common.{◌≡◌, length, take, sym, ap, ◌∙◌, arith, length-take}
 use Rattle.std.proofs.lemmas.List.{length-map, take-map}
 use Rattle.oi_settings.specs.Schema.{row_of, table}
 use Rattle.oi_settings.proofs.schema.settings_of.Goals as goal

@@ -1,4 +1,4 @@
-use Rattle.std.proofs.Common.{◌≡◌, List, ℕ, ◌++◌, refl, sym, ap, subst, ◌∙◌}
+use Rattle.std.proofs.Common.{List, ℕ, ◌++◌, ap, ◌∙◌}
 use Rattle.oi_settings.specs.Texts.{begin_line}
 use Rattle.oi_settings.proofs.Migration.{stored_pairs}
 use Rattle.oi_settings.proofs.text.read_text.Goals as goal

@@ -1,8 +1,3 @@
-use Rattle.std.proofs.Common.{◌≡◌, List, ℕ, ap, sym, subst, ◌∙◌}
-use Rattle.oi_settings.specs.Keys.{Key}
-use Rattle.oi_settings.specs.Pairs.{Pair}
-use Rattle.oi_settings.specs.Schema.{fresh_pairs}
-use Rattle.oi_settings.specs.Texts.{IsNode}
 use Rattle.oi_settings.proofs.FreshPairs.{fresh_node}
 use Rattle.oi_settings.proofs.record.NodeRecord.fresh.Goals as goal
 

@@ -1,5 +1,5 @@
 use Rattle.std.proofs.Common.{ap, is_some, ◌∙◌}
-use Rattle.oi_settings.specs.Pairs.{has_name, value_of}
+use Rattle.oi_settings.specs.Pairs.{has_name}
 use Rattle.oi_settings.proofs.Entries.{value_of-seen}
 use Rattle.oi_settings.proofs.settings.Settings.has.Goals as goal
 
