@@ -27,6 +27,8 @@ row_of s = record { name = s.name.now; initial = s.initial.now; range = s.range 
 abbrev pub newest : Row
 newest = record { name = codes "node.session.oi.count_disrupted"; initial = codes "Yes"; range = YesNo }
 
+-- the settings in the order of a fresh record: the parts of the key first, the newest one last. Those whose names have `.iscsi.`
+-- are keys of the login (RFC 7143, section 13). Times are in seconds.
 abbrev pub table : List Row
 table =
     record { name = codes "node.name"; initial = []; range = OfKey Target }

@@ -15,6 +15,9 @@ use oi_base::{Label, NoMemory};
 use std::alloc::Global;
 use thiserror::Error;
 
+// The setting that the texts of the first schema lack.
+const NEWEST: &[u8] = b"node.session.oi.count_disrupted";
+
 /// Why bytes were not read as the text of a record.
 #[derive(Clone, Copy, Debug, PartialEq, Eq, Drop, Error)]
 pub enum RecordFault {
@@ -23,17 +26,6 @@ pub enum RecordFault {
     Bad { line: u32 },
     #[error("out of memory")]
     Memory,
-}
-
-impl From<NoMemory> for RecordFault {
-    ghost use Rattle.std.specs.Prelude.{◌≡◌};
-    ghost use Rattle.oi_settings.specs.declared.text.RecordFault.TheVariants.{Memory};
-
-    ghost from_gives = { λ _ e. e ≡ Memory };
-
-    fn from(_e: NoMemory) -> RecordFault {
-        RecordFault::Memory
-    }
 }
 
 /// Reads a record's text of either schema. The record of a text of the first schema has the newest setting too, in its
@@ -166,14 +158,14 @@ fn add_newest(alloc: Global, settings: &mut Settings) -> Result<(), NoMemory>
     if has_choice(settings) {
         return Ok(());
     }
-    let name = Vec::from_slice(alloc, b"node.session.oi.count_disrupted")?;
+    let name = Vec::from_slice(alloc, NEWEST)?;
     settings.put(name, Label::from_slice(alloc, b"Yes")?)
 }
 
 fn has_choice(settings: &Settings) -> bool
     ensures { result ≡ is_choice (value_of newest.name settings.now) }
 {
-    match settings.value(b"node.session.oi.count_disrupted") {
+    match settings.value(NEWEST) {
         Some(value) => is_yes_or_no(value.as_slice()),
         None => false,
     }
