@@ -1,5 +1,5 @@
 use super::*;
-use oi_base::{Label, NoMemory};
+use oi_base::Label;
 use oi_names::{IscsiName, Portal, is_iface_name};
 use std::alloc::Global;
 use std::process::Abort;
@@ -75,10 +75,6 @@ const SECOND: &[u8] = b"# BEGIN RECORD 2\n";
 
 const END: &[u8] = b"# END RECORD\n";
 
-fn label(alloc: Global, text: &[u8]) -> Result<Label, NoMemory> {
-    Label::from_slice(alloc, text)
-}
-
 fn key(
     rt: &impl Abort,
     alloc: Global,
@@ -92,7 +88,7 @@ fn key(
     let Ok((portal, tag)) = Portal::read(alloc, portal) else {
         panic!(rt; "no portal");
     };
-    let iface = label(alloc, iface)?;
+    let iface = Label::from_slice(alloc, iface)?;
     assert!(rt; is_iface_name(iface.as_slice()));
     Ok(RecordKey::new(target, portal, tag.unwrap_or(1), iface))
 }
@@ -134,6 +130,26 @@ fn fresh_record(rt: HostRuntime) -> Result<(), Fail> {
     Ok(())
 }
 
+fn update(
+    rt: &impl Abort,
+    alloc: Global,
+    record: &mut NodeRecord,
+    name: &[u8],
+    value: &[u8],
+) -> Result<(), Fail> {
+    let name = Label::from_slice(alloc, name)?;
+    let value = Label::from_slice(alloc, value)?;
+    if !is_open(name.as_slice()) {
+        panic!(rt; "not open");
+    }
+    let taken = takes_value(alloc, name.as_slice(), value.as_slice())?;
+    if !taken {
+        panic!(rt; "not taken");
+    }
+    record.set(name, value)?;
+    Ok(())
+}
+
 // A text of the first schema with an unknown pair last is read and updated.
 #[test]
 fn record_schema_migration(rt: HostRuntime) -> Result<(), Fail> {
@@ -143,12 +159,9 @@ fn record_schema_migration(rt: HostRuntime) -> Result<(), Fail> {
     let (name, value) = record.pair(record.count() - 1);
     assert!(rt; name == b"node.session.oi.count_disrupted".as_slice());
     assert!(rt; value == b"Yes".as_slice());
-    let name = label(alloc, b"node.session.oi.count_disrupted")?;
-    let value = label(alloc, b"No")?;
-    assert!(rt; is_open(name.as_slice()));
-    assert!(rt; takes_value(alloc, name.as_slice(), value.as_slice())?);
-    assert!(rt; !takes_value(alloc, name.as_slice(), b"Maybe")?);
-    record.set(name, value)?;
+    let name = b"node.session.oi.count_disrupted".as_slice();
+    assert!(rt; !takes_value(alloc, name, b"Maybe")?);
+    update(&rt, alloc, &mut record, name, b"No")?;
     let wanted = text_of(
         alloc,
         SECOND,
@@ -340,15 +353,19 @@ fn names_and_values(rt: HostRuntime) -> Result<(), Fail> {
     Ok(())
 }
 
+fn mark_polled(alloc: Global, record: &mut NodeRecord) -> Result<(), Fail> {
+    let name = Label::from_slice(alloc, b"oi.polled")?;
+    let value = Label::from_slice(alloc, b"127.0.0.1:3260")?;
+    record.mark(name, value)?;
+    Ok(())
+}
+
 #[test]
 fn marks_and_values(rt: HostRuntime) -> Result<(), Fail> {
     let alloc = rt.alloc();
     let mut record = NodeRecord::fresh(alloc, first_key(&rt, alloc)?)?;
     assert!(rt; record.value(b"oi.polled").is_none());
-    record.mark(
-        label(alloc, b"oi.polled")?,
-        label(alloc, b"127.0.0.1:3260")?,
-    )?;
+    mark_polled(alloc, &mut record)?;
     assert_eq!(rt; record.count(), 31);
     let (name, value) = record.pair(30);
     assert!(rt; name == b"oi.polled".as_slice());
