@@ -1,4 +1,4 @@
-ghost use Rattle.std.specs.Prelude.{◌≡◌, IfOk, length};
+ghost use Rattle.std.specs.Prelude.{◌≡◌, ◌<◌, ◌^◌, IfOk, length};
 ghost use Rattle.oi_base.specs.Counts.{told};
 ghost use Rattle.oi_units.specs.Replies.{conflict_answer, reserve_answer, reply_of, residual_of};
 
@@ -41,7 +41,8 @@ pub fn reserve_answer(alloc: Global, answer: ReserveAnswer) -> Result<DiskAnswer
 
 /// The reply to a command that was answered so, with the data that it gave, which are cut at what may be sent.
 pub fn reply_of(command: UnitCommand, answer: DiskAnswer, mut bytes: Vec<u8>) -> UnitReply
-    ensures { result ≡ reply_of command answer bytes.items }
+    ensures reply { result ≡ reply_of command answer bytes.items }
+    ensures size { length result.sent < 2 ^ 32 }
 {
     let residual = residual_of(command, answer.status, bytes.len());
     bytes.truncate(command.sendable() as usize);

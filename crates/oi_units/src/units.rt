@@ -1,6 +1,6 @@
-ghost use Rattle.std.specs.Prelude.{◌≡◌, ◌≤◌, IfOk, OnOk, All, map, length};
+ghost use Rattle.std.specs.Prelude.{◌≡◌, ◌≤◌, ◌<◌, ◌^◌, IfOk, OnOk, All, is_some, map, length};
 ghost use Rattle.oi_disk.specs.Disks.{least_disk, most_disk};
-ghost use Rattle.oi_units.specs.Units.{executed, fresh_unit, most_units};
+ghost use Rattle.oi_units.specs.Units.{executed, fresh_unit, most_units, unit_named};
 
 use crate::command::UnitCommand;
 use crate::reply::{UnitReply, reply_of};
@@ -46,6 +46,13 @@ impl Units {
         Ok(Units { units })
     }
 
+    /// Whether there is a unit with this number.
+    pub fn has(&self, lun: [u8; 8]) -> bool
+        ensures { result ≡ is_some (unit_named self.now lun) }
+    {
+        lun == lun_bytes(lun[1]) && (lun[1] as usize) < self.units.len()
+    }
+
     /// Executes one command of this nexus with the data that came for it.
     ///
     /// # Errors
@@ -59,6 +66,7 @@ impl Units {
         payload: &[u8],
     ) -> Result<UnitReply, NoMemory>
         ensures reply { IfOk result (λ r. r ≡ (executed self.old nexus.now.bytes command payload.now).reply) }
+        ensures size { IfOk result (λ r. length r.sent < 2 ^ 32) }
         ensures units { OnOk result (self.new ≡ (executed self.old nexus.now.bytes command payload.now).units) }
     {
         let place = command.lun[1] as usize;

@@ -1,0 +1,4 @@
+pub mod Answers
+pub mod Sequences
+pub mod Sessions
+pub mod Tasks

@@ -1,0 +1,17 @@
+//! One session of a test target in its full feature phase (RFC 7143, section 4.3): commands in order, data in sequences, R2T.
+#![tactic(auto)]
+
+mod answers;
+mod data;
+mod fed;
+mod limits;
+mod manage;
+mod reset;
+mod session;
+mod task;
+
+pub use fed::Fed;
+pub use limits::{Limits, Numbers};
+pub use reset::Reset;
+pub use session::Session;
+pub use task::Task;
