@@ -12,3 +12,5 @@ pub use reply::UnitReply;
 pub use unit::LogicalUnit;
 pub use units::Units;
 
+#[cfg(test)]
+mod tests;
