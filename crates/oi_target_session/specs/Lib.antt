@@ -1,4 +1,5 @@
 pub mod Answers
+pub mod Arrivals
 pub mod Sequences
 pub mod Sessions
 pub mod Tasks

@@ -2,14 +2,17 @@
 #![tactic(auto)]
 
 mod answers;
+mod arrive;
 mod data;
 mod fed;
 mod limits;
 mod manage;
+mod place;
 mod reset;
 mod session;
 mod task;
 
+pub use arrive::receive;
 pub use fed::Fed;
 pub use limits::{Limits, Numbers};
 pub use reset::Reset;

@@ -1,6 +1,7 @@
 ghost use Rattle.std.specs.Prelude.{◌≡◌, ◌≤◌, ◌<◌, ◌+◌, ◌++◌, ◌^◌, Some, None, false, true, [], ◌∷◌, IfOk, IfNone, IfSome, OnOk, MatchOption, length, slice_get, slice_index_or, take};
 ghost use Rattle.std.specs.List.{list_any, position};
 ghost use Rattle.oi_target_session.specs.Answers.{bytes_of};
+ghost use Rattle.oi_target_session.specs.Arrivals.{advanced};
 ghost use Rattle.oi_target_session.specs.Sequences.{AreLimits};
 ghost use Rattle.oi_target_session.specs.Sessions.{and_drained, asking, behind, commanded, counted, data_out, drained, handled, data_at, filled_at, is_busy, is_unfit, logged_out, pinged, queued, reply_pdus, served, with_tasks};
 ghost use Rattle.oi_target_session.specs.Tasks.{grown, is_stuck, is_waiting, no_task, waits_as};
@@ -71,6 +72,20 @@ impl Session {
             tasks: VecDeque::new(alloc),
             resets: Vec::new(alloc),
         }
+    }
+
+    /// ExpCmdSN.
+    pub fn expected(&self) -> Serial
+        ensures { result ≡ self.now.numbers.exp }
+    {
+        self.numbers.exp
+    }
+
+    /// The number that is expected came.
+    pub fn advance(&mut self)
+        ensures { self.new ≡ advanced self.old }
+    {
+        self.numbers.exp = self.numbers.exp.next();
     }
 
     fn is_busy(&self, tag: u32) -> bool
