@@ -23,36 +23,38 @@ pub other_tasks : (s : Session) (others : List Task) (units : List LogicalUnit) 
 other_tasks s others units [] = refl
 other_tasks s others units (t ∷ ts) =
     ap (λ (z : Turn). if is_waiting t then record { session = with_tasks s (t ∷ ts); units = units; sent = []; fed = Going }
-        else behind (reply_pdus s t (executed units s.nexus t.command t.payload).reply) z)
-      (other_tasks (counted s) others (executed units s.nexus t.command t.payload).units ts)
+    else behind (reply_pdus s t (executed units s.nexus t.command t.payload).reply) z)
+    (other_tasks (counted s) others (executed units s.nexus t.command t.payload).units ts)
 
 -- the first task is executed
 one_drained : (s : Session) (units : List LogicalUnit) (t : Task) (ts : List Task) → is_waiting t ≡ false
     → drained s units (t ∷ ts) ≡ behind (reply_pdus s t (executed units s.nexus t.command t.payload).reply)
-        (drained (counted (with_tasks s ts)) (executed units s.nexus t.command t.payload).units ts)
+    (drained (counted (with_tasks s ts)) (executed units s.nexus t.command t.payload).units ts)
 one_drained s units t ts ready =
     ap (λ (b : Bool). if b then record { session = with_tasks s (t ∷ ts); units = units; sent = []; fed = Going }
-        else behind (reply_pdus s t (executed units s.nexus t.command t.payload).reply)
-          (drained (counted s) (executed units s.nexus t.command t.payload).units ts)) ready
+    else behind (reply_pdus s t (executed units s.nexus t.command t.payload).reply)
+    (drained (counted s) (executed units s.nexus t.command t.payload).units ts)) ready
     ∙ ap (λ (z : Turn). behind (reply_pdus s t (executed units s.nexus t.command t.payload).reply) z)
-        (sym (other_tasks (counted s) ts (executed units s.nexus t.command t.payload).units ts))
+    (sym (other_tasks (counted s) ts (executed units s.nexus t.command t.payload).units ts))
 
 -- the first task is executed, and the rest goes on
 drains_step : (s : Session) (units : List LogicalUnit) (written : List ℕ) (first : Turn) (before : List ℕ) (t : Task) (ts : List Task)
     → s.tasks ≡ t ∷ ts → is_waiting t ≡ false → Drains s units written first before
     → Drains (counted (with_tasks s ts)) (executed units s.nexus t.command t.payload).units
-        (written ++ bytes_of (reply_pdus (with_tasks s ts) t (executed units s.nexus t.command t.payload).reply)) first before
+    (written ++ bytes_of (reply_pdus (with_tasks s ts) t (executed units s.nexus t.command t.payload).reply)) first before
 drains_step s units written first before t ts front ready d = record {
-    session = sym (ap (λ (z : Turn). z.session) whole) ∙ d.session;
-    units_are = sym (ap (λ (z : Turn). z.units) whole) ∙ d.units_are;
-    joined = append_assoc written (bytes_of said) (bytes_of left.sent)
+  session = sym (ap (λ (z : Turn). z.session) whole) ∙ d.session;
+  units_are = sym (ap (λ (z : Turn). z.units) whole) ∙ d.units_are;
+  joined = append_assoc written (bytes_of said) (bytes_of left.sent)
       ∙ ap (λ (z : List ℕ). written ++ z) (sym (flat_map-append encoding said left.sent))
       ∙ sym (ap (λ (z : Turn). written ++ bytes_of z.sent) whole) ∙ d.joined;
-  } where
+} where
   said : List Pdu
   said = reply_pdus s t (executed units s.nexus t.command t.payload).reply
+
   left : Turn
   left = drained (counted (with_tasks s ts)) (executed units s.nexus t.command t.payload).units ts
+
   whole : drained s units s.tasks ≡ behind said left
   whole = ap (λ (z : List Task). drained s units z) front ∙ one_drained s units t ts ready
 
@@ -66,5 +68,5 @@ pub drains_on : (s : Session) (units units' : List LogicalUnit) (written written
 drains_on s units units' written written' first before t s' s'' r who payload who_is payload_is front ready rest replied changed counts out d =
     rw (counts, changed, out, replied, who_is, payload_is)
     (subst (λ (z : Session). Drains (counted z) (executed units z.nexus t.command t.payload).units
-        (written ++ bytes_of (reply_pdus z t (executed units z.nexus t.command t.payload).reply)) first before) (sym rest)
-      (drains_step s units written first before t s'.tasks front ready d))
+    (written ++ bytes_of (reply_pdus z t (executed units z.nexus t.command t.payload).reply)) first before) (sym rest)
+    (drains_step s units written first before t s'.tasks front ready d))

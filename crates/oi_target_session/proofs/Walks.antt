@@ -25,8 +25,12 @@ remains_after l n t r number at size (x ∷ xs) written whole after left p some 
   go : (m : ℕ) → length (x ∷ xs) ≤ m → written ++ bytes_of (data_pdus l n t r m number at (x ∷ xs)) ≡ whole
       → Remains l n t r ((number + 1) % 2 ^ 32) (at + size) left after whole
   go zero enough joined = absurd (omega arith)
-  go (suc m) enough joined = record { most = m; enough = rw (behind, length-drop size (x ∷ xs)) (omega arith); joined = rw (out, one, behind, is) (append_assoc written (encoding (piece_pdu l n t r number at (x ∷ xs)))
-      (bytes_of (data_pdus l n t r m ((number + 1) % 2 ^ 32) (at + piece_size l at (length (x ∷ xs))) (drop (piece_size l at (length (x ∷ xs))) (x ∷ xs)))) ∙ joined) }
+  go (suc m) enough joined = record {
+    most = m;
+    enough = rw (behind, length-drop size (x ∷ xs)) (omega arith);
+    joined = rw (out, one, behind, is) (append_assoc written (encoding (piece_pdu l n t r number at (x ∷ xs)))
+        (bytes_of (data_pdus l n t r m ((number + 1) % 2 ^ 32) (at + piece_size l at (length (x ∷ xs))) (drop (piece_size l at (length (x ∷ xs))) (x ∷ xs)))) ∙ joined);
+  }
 
 -- nothing is left
 pub remains_none : (l : Limits) (n : Numbers) (t : Tag) (r : Residual) (number at : ℕ) (rest written whole : List ℕ)

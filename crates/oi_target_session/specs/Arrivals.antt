@@ -73,7 +73,7 @@ in_turn s units p [] = holding [] (served (advanced s) units p)
 in_turn s units p (None ∷ held) = holding held (served (advanced s) units p)
 in_turn s units p (Some next ∷ held) =
     followed (served (advanced s) units p).fed held (served (advanced s) units p)
-      (in_turn (served (advanced s) units p).session (served (advanced s) units p).units next held)
+    (in_turn (served (advanced s) units p).session (served (advanced s) units p).units next held)
 
 -- the places up to this one are there
 abbrev pub padded : ℕ → Held → Held

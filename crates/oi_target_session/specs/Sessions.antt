@@ -164,7 +164,7 @@ drained s units [] = record { session = with_tasks s []; units = units; sent = [
 drained s units (t ∷ ts) =
     if is_waiting t then record { session = with_tasks s (t ∷ ts); units = units; sent = []; fed = Going }
     else behind (reply_pdus s t (executed units s.nexus t.command t.payload).reply)
-        (drained (counted s) (executed units s.nexus t.command t.payload).units ts)
+    (drained (counted s) (executed units s.nexus t.command t.payload).units ts)
 
 abbrev pub and_drained : Fed → Handled → List LogicalUnit → Turn
 and_drained Closed h units = record { session = h.session; units = units; sent = h.sent; fed = Closed }

@@ -44,7 +44,11 @@ fn piece_pdu(
     let burst = source.limits.max_burst as usize;
     let size = piece_size(source.limits, at as usize, rest.len());
     let ends = size == rest.len();
-    let residual = if ends { source.residual } else { Residual::Exact };
+    let residual = if ends {
+        source.residual
+    } else {
+        Residual::Exact
+    };
     let head = Header::DataIn(DataIn {
         last: (at as usize + size) % burst == 0 || ends,
         over: is_over(residual),

@@ -88,12 +88,7 @@ impl Session {
         }
     }
 
-    fn reset(
-        &mut self,
-        h: TaskManagement,
-        reset: Reset,
-        out: &mut Vec<u8>,
-    ) -> Result<Fed, NoMemory>
+    fn reset(&mut self, h: TaskManagement, reset: Reset, out: &mut Vec<u8>) -> Result<Fed, NoMemory>
         ensures session { OnOk result (self.new ≡ (reset_as self.old h reset).session) }
         ensures out { OnOk result (out.new.items ≡ out.old.items ++ bytes_of (reset_as self.old h reset).sent) }
         ensures fed { IfOk result (λ f. f ≡ (reset_as self.old h reset).fed) }

@@ -118,12 +118,7 @@ impl Session {
         Ok(())
     }
 
-    fn command(
-        &mut self,
-        h: ScsiCommand,
-        payload: Blob,
-        out: &mut Vec<u8>,
-    ) -> Result<Fed, NoMemory>
+    fn command(&mut self, h: ScsiCommand, payload: Blob, out: &mut Vec<u8>) -> Result<Fed, NoMemory>
         ensures session { OnOk result (self.new ≡ (commanded self.old h payload).session) }
         ensures out { OnOk result (out.new.items ≡ out.old.items ++ bytes_of (commanded self.old h payload).sent) }
         ensures fed { IfOk result (λ f. f ≡ (commanded self.old h payload).fed) }
@@ -267,12 +262,7 @@ impl Session {
     }
 
     /// What becomes of a PDU whose turn it is.
-    pub fn serve(
-        &mut self,
-        units: &mut Units,
-        pdu: Pdu,
-        out: &mut Vec<u8>,
-    ) -> Result<Fed, NoMemory>
+    pub fn serve(&mut self, units: &mut Units, pdu: Pdu, out: &mut Vec<u8>) -> Result<Fed, NoMemory>
         ensures session { OnOk result (self.new ≡ (served self.old units.old pdu).session) }
         ensures units { OnOk result (units.new ≡ (served self.old units.old pdu).units) }
         ensures out { OnOk result (out.new.items ≡ out.old.items ++ bytes_of (served self.old units.old pdu).sent) }

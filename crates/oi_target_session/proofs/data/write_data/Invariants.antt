@@ -8,7 +8,7 @@ abbrev pub invariant-loop-rest : goal.invariant-loop-rest
 invariant-loop-rest l =
     (l.at + length l.rest ≡ length l.bytes)
     × Remains l.source.limits l.source.numbers l.source.tag l.source.residual l.number l.at l.rest l.out.items
-        (l.fn.out.items ++ bytes_of (data_pdus l.source.limits l.source.numbers l.source.tag l.source.residual (length l.bytes) 0 0 l.bytes))
+    (l.fn.out.items ++ bytes_of (data_pdus l.source.limits l.source.numbers l.source.tag l.source.residual (length l.bytes) 0 0 l.bytes))
 
 abbrev pub decreases-loop-rest : goal.decreases-loop-rest
 decreases-loop-rest l = length l.rest
