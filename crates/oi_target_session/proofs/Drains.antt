@@ -1,11 +1,11 @@
 -- Commands are executed one after another.
-use Rattle.std.proofs.Common.{ℕ, Bool, true, false, ◌≡◌, ◌∙◌, List, [], ◌∷◌, ◌++◌, refl, ap, sym, subst, append_assoc, if◌then◌else◌}
+use Rattle.std.proofs.Common.{ℕ, Bool, false, ◌≡◌, ◌∙◌, List, [], ◌∷◌, ◌++◌, refl, ap, sym, subst, append_assoc, if◌then◌else◌}
 use Rattle.std.proofs.lemmas.Grind.{flat_map-append}
 use Rattle.oi_pdu.specs.Wire.{encoding}
 use Rattle.oi_pdu.specs.declared.codec.Pdu.{Pdu}
 use Rattle.oi_target_session.specs.Answers.{bytes_of}
 use Rattle.oi_target_session.specs.Sessions.{Session, Turn, behind, counted, drained, reply_pdus, with_tasks}
-use Rattle.oi_target_session.specs.Tasks.{is_stuck, is_waiting}
+use Rattle.oi_target_session.specs.Tasks.{is_waiting}
 use Rattle.oi_target_session.specs.declared.fed.Fed.TheVariants.{Going}
 use Rattle.oi_target_session.specs.declared.task.Task.{Task}
 use Rattle.oi_units.specs.Units.{executed}

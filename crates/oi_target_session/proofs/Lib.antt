@@ -1,2 +1,4 @@
 pub mod Drains
+pub mod Joins
+pub mod Walked
 pub mod Walks

@@ -1,5 +1,5 @@
 -- The data of a command, from a place on.
-use Rattle.std.proofs.Common.{ℕ, zero, suc, ◌≡◌, ◌≤◌, ◌<◌, ◌+◌, ◌-◌, ◌%◌, ◌^◌, List, [], ◌∷◌, ◌++◌, length, take, drop, refl, ap, arith, sym, ◌∙◌, append_assoc, append-nil, length-drop, Bool, true, false, ◌==◌}
+use Rattle.std.proofs.Common.{ℕ, zero, suc, ◌≡◌, ◌≤◌, ◌<◌, ◌+◌, ◌%◌, ◌^◌, List, [], ◌∷◌, ◌++◌, length, drop, refl, arith, sym, ◌∙◌, append_assoc, append-nil, length-drop, Bool, true, false, ◌==◌}
 use Rattle.oi_base.specs.declared.tag.Tag.{Tag}
 use Rattle.oi_pdu.specs.Wire.{encoding}
 use Rattle.oi_pdu.specs.declared.codec.Pdu.{Pdu}

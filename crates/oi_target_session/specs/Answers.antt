@@ -1,5 +1,5 @@
 -- The PDUs that a target answers with (RFC 7143, sections 11.4 to 11.8, 11.15 and 11.19).
-use Rattle.std.specs.Prelude.{ℕ, ◌+◌, ◌-◌, ◌%◌, ◌^◌, Bool, true, false, List, [], ◌∷◌, ◌++◌, length, min, replicate, take, flat_map, ◌==◌, if◌then◌else◌}
+use Rattle.std.specs.Prelude.{ℕ, ◌+◌, ◌-◌, ◌%◌, ◌^◌, Bool, true, false, List, [], ◌++◌, length, min, replicate, take, flat_map, ◌==◌, if◌then◌else◌}
 use Rattle.std.specs.Int.{to_be_bytes, w16}
 use Rattle.oi_base.specs.Serials.{predecessor, successor}
 use Rattle.oi_base.specs.declared.serial.Serial.{Serial}
@@ -9,7 +9,6 @@ use Rattle.oi_pdu.specs.declared.codec.Pdu.{Pdu}
 use Rattle.oi_pdu.specs.declared.header.Header.TheVariants as head
 use Rattle.oi_recovery.specs.declared.hit.Residual.{Residual}
 use Rattle.oi_recovery.specs.declared.hit.Residual.TheVariants.{Exact, Under, Over}
-use Rattle.oi_target_session.specs.declared.limits.Limits.{Limits}
 use Rattle.oi_target_session.specs.declared.limits.Numbers.{Numbers}
 use Rattle.oi_target_session.specs.declared.task.Task.{Task}
 use Rattle.oi_units.specs.declared.reply.UnitReply.{UnitReply}

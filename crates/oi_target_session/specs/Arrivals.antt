@@ -1,6 +1,6 @@
 -- Commands come in the order of their CmdSN (RFC 7143, section 4.2.2.1). A PDU that is early is held until those before it
 -- came; one outside the window, and one whose number came before, closes the connection.
-use Rattle.std.specs.Prelude.{ℕ, suc, ◌+◌, ◌-◌, Bool, true, false, Option, Some, None, is_some, List, [], ◌∷◌, ◌++◌, length, replicate, slice_set, ◌==◌, nat_lt, if◌then◌else◌}
+use Rattle.std.specs.Prelude.{ℕ, suc, ◌-◌, Bool, false, Option, Some, None, is_some, List, [], ◌∷◌, ◌++◌, length, replicate, slice_set, ◌==◌, nat_lt, if◌then◌else◌}
 use Rattle.std.specs.List.{slice_get}
 use Rattle.oi_base.specs.Serials.{distance, successor}
 use Rattle.oi_pdu.specs.declared.codec.Pdu.{Pdu}

@@ -2,7 +2,6 @@
 -- at most the length that the initiator declared. The numbers run on over all sequences.
 use Rattle.std.specs.Prelude.{ℕ, zero, suc, ◌≤◌, ◌<◌, ◌+◌, ◌-◌, ◌%◌, ◌^◌, Bool, false, ◌||◌, List, [], ◌∷◌, length, min, take, drop, ◌==◌, if◌then◌else◌}
 use Rattle.oi_base.specs.Serials.{successor}
-use Rattle.oi_base.specs.declared.serial.Serial.{Serial}
 use Rattle.oi_base.specs.declared.tag.Tag.{Tag}
 use Rattle.oi_pdu.specs.declared.codec.Pdu.{Pdu}
 use Rattle.oi_pdu.specs.declared.header.Header.TheVariants as head

@@ -1,5 +1,5 @@
 -- One session in its full feature phase: what becomes of each PDU of its connection (RFC 7143, sections 4.2 and 11).
-use Rattle.std.specs.Prelude.{ℕ, ◌+◌, ◌-◌, ◌%◌, ◌^◌, Bool, true, false, ◌&&◌, ◌||◌, not, Option, Some, None, is_some, List, [], ◌∷◌, ◌++◌, filter, length, min, slice_get, slice_set, take, bytes_eq, ◌==◌, nat_lt, if◌then◌else◌}
+use Rattle.std.specs.Prelude.{ℕ, Bool, ◌&&◌, ◌||◌, not, Option, Some, None, is_some, List, [], ◌∷◌, ◌++◌, filter, length, slice_get, slice_set, take, bytes_eq, ◌==◌, nat_lt, if◌then◌else◌}
 use Rattle.std.specs.List.{list_any, position}
 use Rattle.oi_base.specs.Serials.{successor}
 use Rattle.oi_base.specs.declared.tag.Tag.{Tag}
@@ -22,7 +22,6 @@ use Rattle.oi_target_session.specs.declared.reset.Reset.{Reset}
 use Rattle.oi_target_session.specs.declared.reset.Reset.TheVariants.{Unit as OfUnit, Whole}
 use Rattle.oi_target_session.specs.declared.task.Task.{Task}
 use Rattle.oi_units.specs.Units.{executed, unit_named}
-use Rattle.oi_units.specs.declared.command.UnitCommand.{UnitCommand}
 use Rattle.oi_units.specs.declared.reply.UnitReply.{UnitReply}
 use Rattle.oi_units.specs.declared.unit.LogicalUnit.{LogicalUnit}
 
@@ -73,6 +72,10 @@ with_reset s tasks reset = record { nexus = s.nexus; limits = s.limits; numbers 
 -- a task asks by the next transfer tag
 abbrev pub asking : Session → Task → Task
 asking s t = asking_by s.transfer s.limits.max_burst t
+
+-- the resets were told
+abbrev pub without_resets : Session → Session
+without_resets s = record { nexus = s.nexus; limits = s.limits; numbers = s.numbers; transfer = s.transfer; tasks = s.tasks; resets = [] }
 
 -- one of them has this tag
 abbrev pub is_busy : ℕ → List Task → Bool

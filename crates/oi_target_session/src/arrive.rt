@@ -2,6 +2,7 @@ ghost use Rattle.std.specs.Prelude.{◌≡◌, ◌++◌, ◌<◌, IfOk, OnOk, le
 ghost use Rattle.std.specs.List.{slice_get};
 ghost use Rattle.oi_target_session.specs.Answers.{bytes_of};
 ghost use Rattle.oi_target_session.specs.Arrivals.{in_turn, is_held, padded, received};
+ghost use Rattle.oi_target_session.specs.Runs.{run};
 
 use crate::fed::Fed;
 use crate::place::{Place, place_of};
@@ -85,4 +86,27 @@ pub fn receive(
             Ok(Fed::Going)
         }
     }
+}
+
+/// What becomes of PDUs that came one after another, up to the one that closes the connection.
+pub fn receive_all(
+    session: &mut Session,
+    units: &mut Units,
+    held: &mut VecDeque<Option<Pdu>>,
+    pdus: Vec<Pdu>,
+    out: &mut Vec<u8>,
+) -> Result<Fed, NoMemory>
+    ensures session { OnOk result (session.new ≡ (run session.old units.old held.old.items pdus.items).session) }
+    ensures units { OnOk result (units.new ≡ (run session.old units.old held.old.items pdus.items).units) }
+    ensures held { OnOk result (held.new.items ≡ (run session.old units.old held.old.items pdus.items).held) }
+    ensures out { OnOk result (out.new.items ≡ out.old.items ++ bytes_of (run session.old units.old held.old.items pdus.items).sent) }
+    ensures fed { IfOk result (λ f. f ≡ (run session.old units.old held.old.items pdus.items).fed) }
+{
+    for pdu in pdus {
+        match receive(session, units, held, pdu, out)? {
+            Fed::Closed => return Ok(Fed::Closed),
+            Fed::Going => {}
+        }
+    }
+    Ok(Fed::Going)
 }

@@ -5,6 +5,7 @@ mod answers;
 mod arrive;
 mod data;
 mod fed;
+mod laws;
 mod limits;
 mod manage;
 mod place;
@@ -12,8 +13,9 @@ mod reset;
 mod session;
 mod task;
 
-pub use arrive::receive;
+pub use arrive::{receive, receive_all};
 pub use fed::Fed;
+pub use laws::{execution_is_sequential, parts_come_to_the_whole};
 pub use limits::{Limits, Numbers};
 pub use reset::Reset;
 pub use session::Session;

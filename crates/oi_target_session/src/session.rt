@@ -3,7 +3,7 @@ ghost use Rattle.std.specs.List.{list_any, position};
 ghost use Rattle.oi_target_session.specs.Answers.{bytes_of};
 ghost use Rattle.oi_target_session.specs.Arrivals.{advanced};
 ghost use Rattle.oi_target_session.specs.Sequences.{AreLimits};
-ghost use Rattle.oi_target_session.specs.Sessions.{and_drained, asking, behind, commanded, counted, data_out, drained, handled, data_at, filled_at, is_busy, is_unfit, logged_out, pinged, queued, reply_pdus, served, with_tasks};
+ghost use Rattle.oi_target_session.specs.Sessions.{and_drained, asking, behind, commanded, counted, data_out, drained, handled, data_at, filled_at, is_busy, is_unfit, logged_out, pinged, queued, reply_pdus, served, with_tasks, without_resets};
 ghost use Rattle.oi_target_session.specs.Tasks.{grown, is_stuck, is_waiting, no_task, waits_as};
 ghost use Rattle.oi_target_session.specs.declared.fed.Fed.TheVariants.{Going};
 ghost use Rattle.oi_units.specs.Units.{executed};
@@ -21,6 +21,7 @@ use oi_units::{UnitCommand, UnitReply, Units};
 use std::alloc::Global;
 use std::collections::VecDeque;
 use std::marker::Model;
+use std::mem;
 
 /// A session in its full feature phase, on its one connection.
 #[derive(Debug, Drop)]
@@ -79,6 +80,21 @@ impl Session {
         ensures { result ≡ self.now.numbers.exp }
     {
         self.numbers.exp
+    }
+
+    /// The initiator port.
+    pub fn nexus(&self) -> &Nexus
+        ensures { result.now.bytes ≡ self.now.nexus }
+    {
+        &self.nexus
+    }
+
+    /// Takes the resets that other sessions of the target have to learn of, in order.
+    pub fn take_resets(&mut self) -> Vec<Reset>
+        ensures resets { result.items ≡ self.old.resets }
+        ensures session { self.new ≡ without_resets self.old }
+    {
+        mem::replace(&mut self.resets, Vec::new(self.alloc))
     }
 
     /// The number that is expected came.

@@ -1,4 +1,4 @@
-use Rattle.std.proofs.Common.{rules, arith, ◌++◌, length}
+use Rattle.std.proofs.Common.{◌++◌, length}
 use Rattle.oi_target_session.specs.Answers.{bytes_of}
 use Rattle.oi_target_session.specs.Sequences.{data_pdus}
 use Rattle.oi_target_session.proofs.Walks.{none_left, place_after, remains_after, remains_none, some_left}
