@@ -1,5 +1,6 @@
 pub mod Answers
 pub mod Arrivals
+pub mod Executions
 pub mod Runs
 pub mod Sequences
 pub mod Sessions
