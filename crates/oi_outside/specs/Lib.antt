@@ -1,3 +1,6 @@
 pub mod Calls
+pub mod MemStores
 pub mod Memory
+pub mod Records
+pub mod Stores
 pub mod Streams

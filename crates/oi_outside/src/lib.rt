@@ -6,13 +6,19 @@ mod calls;
 mod failed;
 mod mem_sink;
 mod mem_source;
+mod mem_store;
+mod record_store;
 mod sink;
 mod source;
+mod store_error;
 #[cfg(test)]
 mod tests;
 
 pub use failed::Failed;
 pub use mem_sink::MemSink;
 pub use mem_source::MemSource;
+pub use mem_store::MemStore;
+pub use record_store::RecordStore;
 pub use sink::Sink;
 pub use source::Source;
+pub use store_error::StoreError;

@@ -1,0 +1,10 @@
+pub mod Encoded
+pub mod Exchanging
+pub mod Journeys
+pub mod Readings
+pub mod Refused
+pub mod Shown
+pub mod Sizes
+pub mod Steps
+pub mod Texts
+pub mod Unique

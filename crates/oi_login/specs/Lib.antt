@@ -1,0 +1,11 @@
+pub mod Answers
+pub mod Chap
+pub mod Configs
+pub mod Exchanges
+pub mod Keys
+pub mod Mutual
+pub mod Numbers
+pub mod Requests
+pub mod Stages
+pub mod States
+pub mod Turns

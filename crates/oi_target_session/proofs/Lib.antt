@@ -1,0 +1,5 @@
+pub mod Drains
+pub mod Executed
+pub mod Joins
+pub mod Walked
+pub mod Walks

@@ -1,0 +1,98 @@
+-- Commands come in the order of their CmdSN (RFC 7143, section 4.2.2.1). A PDU that is early is held until those before it
+-- came; one outside the window, and one whose number came before, closes the connection.
+use Rattle.std.specs.Prelude.{ℕ, suc, ◌-◌, Bool, false, Option, Some, None, is_some, List, [], ◌∷◌, ◌++◌, length, replicate, slice_set, ◌==◌, nat_lt, if◌then◌else◌}
+use Rattle.std.specs.List.{slice_get}
+use Rattle.oi_base.specs.Serials.{distance, successor}
+use Rattle.oi_pdu.specs.declared.codec.Pdu.{Pdu}
+use Rattle.oi_pdu.specs.declared.header.Header.{Header}
+use Rattle.oi_pdu.specs.declared.header.Header.TheVariants as head
+use Rattle.oi_target_session.specs.Sessions.{Session, Turn, served}
+use Rattle.oi_target_session.specs.declared.fed.Fed.{Fed}
+use Rattle.oi_target_session.specs.declared.fed.Fed.TheVariants.{Going, Closed}
+use Rattle.oi_target_session.specs.declared.place.Place.{Place}
+use Rattle.oi_target_session.specs.declared.place.Place.TheVariants.{Now, InTurn, Early, Outside}
+use Rattle.oi_units.specs.declared.unit.LogicalUnit.{LogicalUnit}
+
+-- the window holds 32 numbers
+abbrev pub window : ℕ
+window = 32
+
+-- a PDU that takes a number, by how far that is ahead of the one that is expected
+abbrev pub place_ahead : ℕ → Place
+place_ahead ahead = if ahead == 0 then InTurn else (if nat_lt ahead window then Early (ahead - 1) else Outside)
+
+-- immediate PDUs take no number
+abbrev pub place_by : ℕ → Bool → ℕ → Place
+place_by exp immediate number = if immediate then Now else place_ahead (distance exp number)
+
+-- Data-Out has no number, and the others have no place in a normal session
+abbrev pub place_of : ℕ → Header → Place
+place_of exp (head.NopOut h) = place_by exp h.immediate h.cmdsn.0
+place_of exp (head.ScsiCommand h) = place_by exp h.immediate h.cmdsn.0
+place_of exp (head.TaskManagement h) = place_by exp h.immediate h.cmdsn.0
+place_of exp (head.LogoutRequest h) = place_by exp h.immediate h.cmdsn.0
+place_of exp h = Now
+
+-- the PDUs that are held, by how far they are behind the next one; None where none came yet
+abbrev pub Held : Type 0
+Held = List (Option Pdu)
+
+-- what becomes of a PDU that came
+pub record Received : Type 0 where
+  pub session : Session
+  pub units : List LogicalUnit
+  pub held : Held
+  pub sent : List Pdu
+  pub fed : Fed
+
+abbrev pub holding : Held → Turn → Received
+holding held t = record { session = t.session; units = t.units; held = held; sent = t.sent; fed = t.fed }
+
+abbrev pub ahead_of : List Pdu → Received → Received
+ahead_of sent r = record { session = r.session; units = r.units; held = r.held; sent = sent ++ r.sent; fed = r.fed }
+
+-- the number that is expected came
+abbrev pub advanced : Session → Session
+advanced s = record {
+  nexus = s.nexus;
+  limits = s.limits;
+  numbers = record { exp = record { 0 = successor s.numbers.exp.0 }; stat = s.numbers.stat };
+  transfer = s.transfer;
+  tasks = s.tasks;
+  resets = s.resets;
+}
+
+-- where the connection stays
+abbrev pub followed : Fed → Held → Turn → Received → Received
+followed Closed held t rest = holding held t
+followed Going held t rest = ahead_of t.sent rest
+
+-- PDUs in turn: those that are held and follow it at once are served behind it
+abbrev pub in_turn : Session → List LogicalUnit → Pdu → Held → Received
+in_turn s units p [] = holding [] (served (advanced s) units p)
+in_turn s units p (None ∷ held) = holding held (served (advanced s) units p)
+in_turn s units p (Some next ∷ held) =
+    followed (served (advanced s) units p).fed held (served (advanced s) units p)
+    (in_turn (served (advanced s) units p).session (served (advanced s) units p).units next held)
+
+-- the places up to this one are there
+abbrev pub padded : ℕ → Held → Held
+padded at held = held ++ replicate (suc at - length held) None
+
+abbrev pub is_held : Option (Option Pdu) → Bool
+is_held None = false
+is_held (Some slot) = is_some slot
+
+abbrev pub unmoved : Session → List LogicalUnit → Held → Fed → Received
+unmoved s units held fed = record { session = s; units = units; held = held; sent = []; fed = fed }
+
+abbrev pub received_at : Place → Session → List LogicalUnit → Held → Pdu → Received
+received_at Now s units held p = holding held (served s units p)
+received_at InTurn s units held p = in_turn s units p held
+received_at (Early at) s units held p =
+    if is_held (slice_get held at) then unmoved s units held Closed
+    else unmoved s units (slice_set (padded at held) at (Some p)) Going
+received_at Outside s units held p = unmoved s units held Closed
+
+abbrev pub received : Session → List LogicalUnit → Held → Pdu → Received
+received s units held p = received_at (place_of s.numbers.exp.0 p.head) s units held p

@@ -1,0 +1,7 @@
+pub mod Answers
+pub mod Arrivals
+pub mod Executions
+pub mod Runs
+pub mod Sequences
+pub mod Sessions
+pub mod Tasks

@@ -1,0 +1,59 @@
+-- The data of a command for the initiator (RFC 7143, section 11.7): sequences of at most MaxBurstLength, each in pieces of
+-- at most the length that the initiator declared. The numbers run on over all sequences.
+use Rattle.std.specs.Prelude.{ℕ, zero, suc, ◌≤◌, ◌<◌, ◌+◌, ◌-◌, ◌%◌, ◌^◌, Bool, false, ◌||◌, List, [], ◌∷◌, length, min, take, drop, ◌==◌, if◌then◌else◌}
+use Rattle.oi_base.specs.Serials.{successor}
+use Rattle.oi_base.specs.declared.tag.Tag.{Tag}
+use Rattle.oi_pdu.specs.declared.codec.Pdu.{Pdu}
+use Rattle.oi_pdu.specs.declared.header.Header.TheVariants as head
+use Rattle.oi_recovery.specs.declared.hit.Residual.{Residual}
+use Rattle.oi_target_session.specs.Answers.{is_over, is_under, max_number, no_lun, no_tag, residual_count}
+use Rattle.oi_target_session.specs.declared.limits.Limits.{Limits}
+use Rattle.oi_target_session.specs.declared.limits.Numbers.{Numbers}
+
+-- lengths that a login can settle
+pub record AreLimits (l : Limits) : Type 0 where
+  pub some : 1 ≤ l.max_send
+  pub most : l.max_send < 2 ^ 24
+  pub burst : 1 ≤ l.max_burst
+
+-- the size of the piece that begins at a place, with so many bytes left
+abbrev pub piece_size : Limits → ℕ → ℕ → ℕ
+piece_size l at left = min (min l.max_send (l.max_burst - at % l.max_burst)) left
+
+-- it is the last of its sequence
+abbrev pub ends_sequence : Limits → ℕ → ℕ → Bool
+ends_sequence l at left = (at + piece_size l at left) % l.max_burst == 0 || piece_size l at left == left
+
+-- it is the last of the command, and has its status
+abbrev pub ends_command : Limits → ℕ → ℕ → Bool
+ends_command l at left = piece_size l at left == left
+
+-- the piece at the front of the data that are left
+abbrev pub piece_pdu : Limits → Numbers → Tag → Residual → ℕ → ℕ → List ℕ → Pdu
+piece_pdu l n tag r number at rest = record {
+  head = head.DataIn (record {
+    last = ends_sequence l at (length rest);
+    over = if ends_command l at (length rest) then is_over r else false;
+    under = if ends_command l at (length rest) then is_under r else false;
+    ends = ends_command l at (length rest);
+    status = 0;
+    lun = no_lun;
+    tag = tag;
+    ttt = no_tag;
+    stat = if ends_command l at (length rest) then n.stat else record { 0 = 0 };
+    exp = n.exp;
+    max = max_number n;
+    number = number;
+    offset = at;
+    residual = if ends_command l at (length rest) then residual_count r else 0;
+  });
+  payload = take (piece_size l at (length rest)) rest;
+}
+
+-- all pieces from a place on; as many as there are bytes are enough
+abbrev pub data_pdus : Limits → Numbers → Tag → Residual → ℕ → ℕ → ℕ → List ℕ → List Pdu
+data_pdus l n tag r zero number at rest = []
+data_pdus l n tag r (suc most) number at [] = []
+data_pdus l n tag r (suc most) number at (x ∷ xs) =
+    piece_pdu l n tag r number at (x ∷ xs)
+    ∷ data_pdus l n tag r most (successor number) (at + piece_size l at (length (x ∷ xs))) (drop (piece_size l at (length (x ∷ xs))) (x ∷ xs))

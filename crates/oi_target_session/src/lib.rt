@@ -1,0 +1,25 @@
+//! One session of a test target in its full feature phase (RFC 7143, section 4.3): commands in order, data in sequences, R2T.
+#![tactic(auto)]
+
+mod answers;
+mod arrive;
+mod data;
+mod fed;
+mod laws;
+mod limits;
+mod manage;
+mod place;
+mod reset;
+mod session;
+mod task;
+
+pub use arrive::{receive, receive_all};
+pub use fed::Fed;
+pub use laws::{execution_is_sequential, parts_come_to_the_whole};
+pub use limits::{Limits, Numbers};
+pub use reset::Reset;
+pub use session::Session;
+pub use task::Task;
+
+#[cfg(test)]
+mod tests;

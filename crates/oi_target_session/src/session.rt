@@ -1,0 +1,305 @@
+ghost use Rattle.std.specs.Prelude.{◌≡◌, ◌≤◌, ◌<◌, ◌+◌, ◌++◌, ◌^◌, Some, None, false, true, [], ◌∷◌, IfOk, IfNone, IfSome, OnOk, MatchOption, length, slice_get, slice_index_or, take};
+ghost use Rattle.std.specs.List.{list_any, position};
+ghost use Rattle.oi_target_session.specs.Answers.{bytes_of};
+ghost use Rattle.oi_target_session.specs.Arrivals.{advanced};
+ghost use Rattle.oi_target_session.specs.Sequences.{AreLimits};
+ghost use Rattle.oi_target_session.specs.Sessions.{and_drained, asking, behind, commanded, counted, data_out, drained, handled, data_at, filled_at, is_busy, is_unfit, logged_out, pinged, queued, reply_pdus, served, with_tasks, without_resets};
+ghost use Rattle.oi_target_session.specs.Tasks.{grown, is_stuck, is_waiting, no_task, waits_as};
+ghost use Rattle.oi_target_session.specs.declared.fed.Fed.TheVariants.{Going};
+ghost use Rattle.oi_units.specs.Units.{executed};
+
+use crate::answers::{NO_TAG, echo_pdu, logout_pdu, r2t_pdu, response_pdu};
+use crate::data::{Source, write_data};
+use crate::fed::Fed;
+use crate::limits::{Limits, Numbers};
+use crate::reset::Reset;
+use crate::task::Task;
+use oi_base::{Blob, NoMemory, Serial};
+use oi_pdu::{DataOut, Header, LogoutRequest, NopOut, Pdu, ScsiCommand, write_pdu};
+use oi_reserve::Nexus;
+use oi_units::{UnitCommand, UnitReply, Units};
+use std::alloc::Global;
+use std::collections::VecDeque;
+use std::marker::Model;
+use std::mem;
+
+/// A session in its full feature phase, on its one connection.
+#[derive(Debug, Drop)]
+pub struct Session {
+    pub(crate) alloc: Global,
+    nexus: Nexus,
+    limits: Limits,
+    pub(crate) numbers: Numbers,
+    transfer: u32,
+    pub(crate) tasks: VecDeque<Task>,
+    pub(crate) resets: Vec<Reset>,
+}
+
+impl Model for Session {
+    ghost use Rattle.oi_target_session.specs.Sequences.{AreLimits};
+    ghost use Rattle.oi_target_session.specs.Sessions as specs;
+
+    ghost Value = { specs.Session };
+
+    ghost view = { λ s. record {
+      nexus = s.nexus.bytes;
+      limits = s.limits;
+      numbers = s.numbers;
+      transfer = s.transfer;
+      tasks = s.tasks.items;
+      resets = s.resets.items;
+    } };
+
+    ghost invariant = { λ s. AreLimits s.limits };
+}
+
+impl Session {
+    /// A session at its first command. Target transfer tags count from 1.
+    pub fn new(alloc: Global, nexus: Nexus, limits: Limits, numbers: Numbers) -> Session
+        requires { AreLimits limits }
+        ensures nexus { result.nexus ≡ nexus.bytes }
+        ensures limits { result.limits ≡ limits }
+        ensures numbers { result.numbers ≡ numbers }
+        ensures transfer { result.transfer ≡ 1 }
+        ensures tasks { result.tasks ≡ [] }
+        ensures resets { result.resets ≡ [] }
+    {
+        Session {
+            alloc,
+            nexus,
+            limits,
+            numbers,
+            transfer: 1,
+            tasks: VecDeque::new(alloc),
+            resets: Vec::new(alloc),
+        }
+    }
+
+    /// ExpCmdSN.
+    pub fn expected(&self) -> Serial
+        ensures { result ≡ self.now.numbers.exp }
+    {
+        self.numbers.exp
+    }
+
+    /// The initiator port.
+    pub fn nexus(&self) -> &Nexus
+        ensures { result.now.bytes ≡ self.now.nexus }
+    {
+        &self.nexus
+    }
+
+    /// Takes the resets that other sessions of the target have to learn of, in order.
+    pub fn take_resets(&mut self) -> Vec<Reset>
+        ensures resets { result.items ≡ self.old.resets }
+        ensures session { self.new ≡ without_resets self.old }
+    {
+        mem::replace(&mut self.resets, Vec::new(self.alloc))
+    }
+
+    /// The number that is expected came.
+    pub fn advance(&mut self)
+        ensures { self.new ≡ advanced self.old }
+    {
+        self.numbers.exp = self.numbers.exp.next();
+    }
+
+    fn is_busy(&self, tag: u32) -> bool
+        ensures { result ≡ is_busy tag self.now.tasks }
+    {
+        self.tasks.iter().any(|t| t.tag.0 == tag)
+    }
+
+    fn is_unfit(&self, h: ScsiCommand, payload: &[u8]) -> bool
+        ensures { result ≡ is_unfit self.now h payload.now }
+    {
+        self.is_busy(h.tag.0)
+            || (0 < payload.len() && !h.writes)
+            || (h.length as usize) < payload.len()
+            || (self.limits.first_burst as usize) < payload.len()
+    }
+
+    fn queue(&mut self, task: Task, out: &mut Vec<u8>) -> Result<(), NoMemory>
+        ensures session { OnOk result (self.new ≡ (queued self.old task).session) }
+        ensures out { OnOk result (out.new.items ≡ out.old.items ++ bytes_of (queued self.old task).sent) }
+    {
+        let mut task = task;
+        if task.is_waiting() {
+            task.ask(self.transfer, self.limits.max_burst);
+            let pdu = r2t_pdu(self.alloc, self.numbers, &task, task.end);
+            write_pdu(&pdu, out)?;
+            self.transfer = self.transfer.wrapping_add(1);
+        }
+        self.tasks.push_back(task)?;
+        Ok(())
+    }
+
+    fn command(&mut self, h: ScsiCommand, payload: Blob, out: &mut Vec<u8>) -> Result<Fed, NoMemory>
+        ensures session { OnOk result (self.new ≡ (commanded self.old h payload).session) }
+        ensures out { OnOk result (out.new.items ≡ out.old.items ++ bytes_of (commanded self.old h payload).sent) }
+        ensures fed { IfOk result (λ f. f ≡ (commanded self.old h payload).fed) }
+    {
+        if self.is_unfit(h, payload.as_slice()) {
+            return Ok(Fed::Closed);
+        }
+        self.queue(Task::new(h, payload), out)?;
+        Ok(Fed::Going)
+    }
+
+    fn ping(&mut self, h: NopOut, payload: &[u8], out: &mut Vec<u8>) -> Result<Fed, NoMemory>
+        ensures session { OnOk result (self.new ≡ (pinged self.old h payload.now).session) }
+        ensures out { OnOk result (out.new.items ≡ out.old.items ++ bytes_of (pinged self.old h payload.now).sent) }
+        ensures fed { IfOk result (λ f. f ≡ (pinged self.old h payload.now).fed) }
+    {
+        if h.tag.0 == NO_TAG {
+            return Ok(Fed::Going);
+        }
+        let echoed = echoed(self.alloc, payload, self.limits)?;
+        write_pdu(&echo_pdu(self.numbers, h.tag, echoed), out)?;
+        self.numbers = self.numbers.after_status();
+        Ok(Fed::Going)
+    }
+
+    fn log_out(&mut self, h: LogoutRequest, out: &mut Vec<u8>) -> Result<Fed, NoMemory>
+        ensures session { OnOk result (self.new ≡ (logged_out self.old h).session) }
+        ensures out { OnOk result (out.new.items ≡ out.old.items ++ bytes_of (logged_out self.old h).sent) }
+        ensures fed { IfOk result (λ f. f ≡ (logged_out self.old h).fed) }
+    {
+        write_pdu(&logout_pdu(self.alloc, self.numbers, h.tag), out)?;
+        self.numbers = self.numbers.after_status();
+        Ok(Fed::Closed)
+    }
+
+    fn waiting_as(&self, tag: u32) -> Option<usize>
+        ensures { result ≡ position (waits_as tag) self.now.tasks }
+    {
+        self.tasks.iter().position(|t| t.waits_as(tag))
+    }
+
+    fn data_out(&mut self, h: DataOut, payload: &[u8], out: &mut Vec<u8>) -> Result<Fed, NoMemory>
+        ensures session { OnOk result (self.new ≡ (data_out self.old h payload.now).session) }
+        ensures out { OnOk result (out.new.items ≡ out.old.items ++ bytes_of (data_out self.old h payload.now).sent) }
+        ensures fed { IfOk result (λ f. f ≡ (data_out self.old h payload.now).fed) }
+    {
+        let Some(at) = self.waiting_as(h.tag.0) else {
+            return Ok(Fed::Going);
+        };
+        if at >= self.tasks.len() {
+            return Ok(Fed::Going);
+        }
+        if self.tasks[at].is_stray(h, payload) {
+            return Ok(Fed::Closed);
+        }
+        self.fill_at(at, payload, out)?;
+        Ok(Fed::Going)
+    }
+
+    // The task at this place takes its data.
+    fn fill_at(&mut self, at: usize, payload: &[u8], out: &mut Vec<u8>) -> Result<(), NoMemory>
+        requires { at < length self.old.tasks }
+        ensures session { OnOk result (self.new ≡ (filled_at self.old at (grown (slice_index_or self.old.tasks at no_task) payload.now)).session) }
+        ensures out { OnOk result (out.new.items ≡ out.old.items ++ bytes_of (filled_at self.old at (grown (slice_index_or self.old.tasks at no_task) payload.now)).sent) }
+        ensures fed { (filled_at self.old at (grown (slice_index_or self.old.tasks at no_task) payload.now)).fed ≡ Going }
+    {
+        if self.tasks[at].fill(self.alloc, payload, self.transfer, self.limits.max_burst)? {
+            let task = &self.tasks[at];
+            let pdu = r2t_pdu(self.alloc, self.numbers, task, task.end);
+            write_pdu(&pdu, out)?;
+            self.transfer = self.transfer.wrapping_add(1);
+        }
+        Ok(())
+    }
+
+    // Writes the reply to a task.
+    fn reply(&mut self, task: &Task, reply: &UnitReply, out: &mut Vec<u8>) -> Result<(), NoMemory>
+        requires { length reply.now.sent < 2 ^ 32 }
+        ensures session { OnOk result (self.new ≡ counted self.old) }
+        ensures out { OnOk result (out.new.items ≡ out.old.items ++ bytes_of (reply_pdus self.old task.now reply.now)) }
+    {
+        if reply.sent.as_slice().is_empty() {
+            write_pdu(&response_pdu(self.alloc, self.numbers, task, reply)?, out)?;
+        } else {
+            let source = Source {
+                limits: self.limits,
+                numbers: self.numbers,
+                tag: task.tag,
+                residual: reply.residual,
+            };
+            write_data(self.alloc, source, reply.sent.as_slice(), out)?;
+        }
+        self.numbers = self.numbers.after_status();
+        Ok(())
+    }
+
+    // The first task, where it is to be executed.
+    fn next_ready(&mut self) -> Option<Task>
+        ensures none { IfNone result (self.new ≡ self.old) }
+        ensures stuck { IfNone result (is_stuck self.old.tasks ≡ true) }
+        ensures some { IfSome result (λ t. (is_waiting t ≡ false) × (self.old.tasks ≡ t ∷ self.new.tasks) × (self.new ≡ with_tasks self.old self.new.tasks)) }
+    {
+        match self.tasks.front() {
+            Some(task) if !task.is_waiting() => self.tasks.pop_front(),
+            _ => None,
+        }
+    }
+
+    /// Executes commands in order, up to the first one whose data are not complete.
+    pub fn drain(&mut self, units: &mut Units, out: &mut Vec<u8>) -> Result<(), NoMemory>
+        ensures session { OnOk result (self.new ≡ (drained self.old units.old self.old.tasks).session) }
+        ensures units { OnOk result (units.new ≡ (drained self.old units.old self.old.tasks).units) }
+        ensures out { OnOk result (out.new.items ≡ out.old.items ++ bytes_of (drained self.old units.old self.old.tasks).sent) }
+    {
+        while let Some(task) = self.next_ready() {
+            let reply = units.execute(
+                self.alloc,
+                &self.nexus,
+                task.command,
+                task.payload.as_slice(),
+            )?;
+            self.reply(&task, &reply, out)?;
+        }
+        Ok(())
+    }
+
+    fn handle(&mut self, units: &Units, pdu: Pdu, out: &mut Vec<u8>) -> Result<Fed, NoMemory>
+        ensures session { OnOk result (self.new ≡ (handled self.old units.now pdu.head pdu.payload).session) }
+        ensures out { OnOk result (out.new.items ≡ out.old.items ++ bytes_of (handled self.old units.now pdu.head pdu.payload).sent) }
+        ensures fed { IfOk result (λ f. f ≡ (handled self.old units.now pdu.head pdu.payload).fed) }
+    {
+        let Pdu { head, payload } = pdu;
+        match head {
+            Header::ScsiCommand(h) => self.command(h, payload, out),
+            Header::DataOut(h) => self.data_out(h, payload.as_slice(), out),
+            Header::NopOut(h) => self.ping(h, payload.as_slice(), out),
+            Header::TaskManagement(h) => self.manage(units, h, out),
+            Header::LogoutRequest(h) => self.log_out(h, out),
+            _ => Ok(Fed::Closed),
+        }
+    }
+
+    /// What becomes of a PDU whose turn it is.
+    pub fn serve(&mut self, units: &mut Units, pdu: Pdu, out: &mut Vec<u8>) -> Result<Fed, NoMemory>
+        ensures session { OnOk result (self.new ≡ (served self.old units.old pdu).session) }
+        ensures units { OnOk result (units.new ≡ (served self.old units.old pdu).units) }
+        ensures out { OnOk result (out.new.items ≡ out.old.items ++ bytes_of (served self.old units.old pdu).sent) }
+        ensures fed { IfOk result (λ f. f ≡ (served self.old units.old pdu).fed) }
+    {
+        match self.handle(units, pdu, out)? {
+            Fed::Closed => Ok(Fed::Closed),
+            Fed::Going => {
+                self.drain(units, out)?;
+                Ok(Fed::Going)
+            }
+        }
+    }
+}
+
+// So much of ping data as the initiator takes.
+fn echoed(alloc: Global, payload: &[u8], limits: Limits) -> Result<Blob, NoMemory>
+    requires { AreLimits limits }
+    ensures value { IfOk result (λ b. b ≡ take limits.max_send payload.now) }
+    ensures size { IfOk result (λ b. length b < 2 ^ 24) }
+{
+    let count = payload.len().min(limits.max_send as usize);
+    Blob::from_slice(alloc, &payload[..count])
+}

@@ -1,0 +1,16 @@
+//! The logical units of a target: each has a disk and a table of reservations, and is asked one command after another.
+#![tactic(auto)]
+
+mod command;
+mod listing;
+mod reply;
+mod unit;
+mod units;
+
+pub use command::UnitCommand;
+pub use reply::UnitReply;
+pub use unit::LogicalUnit;
+pub use units::Units;
+
+#[cfg(test)]
+mod tests;
