@@ -1,12 +1,10 @@
 //! `openiscsi`: the initiator over the standard streams.
 #![tactic(auto)]
 
-mod streams;
-
+use oi_net::{StdSink, StdSource};
 use oi_top::iscsi_main;
 use std::process::ExitCode;
 use std::{env, io};
-use streams::{StdSink, StdSource};
 
 const WANT_OF_MEMORY: u8 = 3;
 
