@@ -1,6 +1,7 @@
 -- The fifteen rules of a legal history, each read with the entries before.
 use Rattle.std.specs.Prelude.{◌≡◌, ◌⊎◌, ◌≤◌, ◌<◌, ◌+◌, ◌++◌, ◌^◌, ℕ, true, false, List, [], ◌∷◌, Some, None, length, slice_get}
 use Rattle.oi_base.specs.Limits.{most_management_tags}
+use Rattle.oi_base.specs.TagLayout.{reserved_tag}
 use Rattle.oi_history.specs.Handling.{is_live}
 use Rattle.oi_history.specs.Legality.{IsAbove}
 use Rattle.oi_history.specs.Losses.{is_cause}
@@ -58,14 +59,14 @@ abbrev pub DrawsAll : Meanings → Event → Type 0
 DrawsAll m (Draw count) = (count ≡ length (drawable m.busy m.tasks m.solicited)) × (1 ≤ count)
 DrawsAll m e = Unit {0}
 
--- 9: another request is owed, with the next management tag
-abbrev pub IsOwed : SessionConfig → List Numbered → Event → Type 0
-IsOwed C H e = (owed C H ≡ e ∷ []) × ((meanings C H).managed < most_management_tags)
+-- 9: another request is owed, with the next management tag; an answer to the target's own NOP-In has none
+abbrev pub IsOwed : SessionConfig → List Numbered → ℕ → Event → Type 0
+IsOwed C H tag e = (owed C H ≡ e ∷ []) × (tag ≡ reserved_tag ⊎ (meanings C H).managed < most_management_tags)
 
 abbrev pub IsAsked : SessionConfig → List Numbered → Event → Type 0
-IsAsked C H (Manage generation tag function subject) = IsOwed C H (Manage generation tag function subject)
-IsAsked C H (Nop generation tag ttt lun) = IsOwed C H (Nop generation tag ttt lun)
-IsAsked C H (Logout generation tag) = IsOwed C H (Logout generation tag)
+IsAsked C H (Manage generation tag function subject) = IsOwed C H tag.0 (Manage generation tag function subject)
+IsAsked C H (Nop generation tag ttt lun) = IsOwed C H tag (Nop generation tag ttt lun)
+IsAsked C H (Logout generation tag) = IsOwed C H tag.0 (Logout generation tag)
 IsAsked C H e = Unit {0}
 
 -- 10: the clock does not go back
