@@ -131,7 +131,7 @@ fn judge(rt: &impl Abort, alloc: Global, events: Vec<Event>, rule: Option<u8>) -
                 },
             ) => {
                 assert_eq!(rt; broken, rule);
-                assert_eq!(rt; number + 1, place);
+                assert!(rt; number.checked_add(1) == Some(place));
             }
             _ => assert!(rt; false, "rule {rule} holds"),
         },
