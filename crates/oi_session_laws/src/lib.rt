@@ -1,0 +1,7 @@
+//! Laws of a permitted history of a whole session: what stays, what is handed out, how commands and requests are numbered
+//! and tagged, and what an old connection may do.
+#![tactic(auto)]
+
+mod laws;
+
+pub use laws::done_is_final;
