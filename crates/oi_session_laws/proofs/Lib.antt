@@ -1,2 +1,4 @@
 pub mod Moved
 pub mod Stays
+pub mod Tries
+pub mod Ends

@@ -1,10 +1,29 @@
 -- What is left at the end of a session, and how many tries are used.
-use Rattle.std.specs.Prelude.{◌≤◌, ◌<◌, ℕ}
+use Rattle.std.specs.Prelude.{◌≡◌, ◌≤◌, ◌<◌, ℕ, true, List, Some}
+use Rattle.oi_history.specs.Meanings.{meanings}
+use Rattle.oi_history.specs.Permitted.{ArePermitted}
+use Rattle.oi_history.specs.Phases.{is_ended}
+use Rattle.oi_history.specs.Tasks.{is_done}
+use Rattle.oi_history.specs.declared.config.SessionConfig.{SessionConfig}
+use Rattle.oi_history.specs.declared.event.Numbered.{Numbered}
 use Rattle.oi_history.specs.declared.fate.Fate.{Fate}
 use Rattle.oi_history.specs.declared.fate.Fate.TheVariants.{Waiting, Live, Done}
+use Rattle.oi_laws.specs.Stays.{fate_at}
 
 -- one that waits has a try left; the tries of one that is live count the present one
 abbrev pub HasTries : ℕ → Fate → Type 0
 HasTries allowed (Waiting tries) = tries < allowed
 HasTries allowed (Live generation tag tries) = tries ≤ allowed
 HasTries allowed (Done outcome at) = Unit {0}
+
+-- once a session ended, no submission waits or is live
+abbrev pub NoneLeft : Type 0
+NoneLeft =
+    (C : SessionConfig) (H : List Numbered) → ArePermitted C H → is_ended (meanings C H).phase ≡ true
+    → (id : ℕ) (fate : Fate) → fate_at id (meanings C H).tasks ≡ Some fate → is_done fate ≡ true
+
+-- a submission that waits has used fewer tries than are allowed, and one that is live no more
+abbrev pub TriesLeft : Type 0
+TriesLeft =
+    (C : SessionConfig) (H : List Numbered) → ArePermitted C H → 1 ≤ C.tries
+    → (id : ℕ) (fate : Fate) → fate_at id (meanings C H).tasks ≡ Some fate → HasTries C.tries fate

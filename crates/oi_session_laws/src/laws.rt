@@ -1,6 +1,18 @@
+ghost use Rattle.oi_session_laws.specs.Ends.{NoneLeft, TriesLeft};
 ghost use Rattle.oi_session_laws.specs.Stays.{DoneIsFinal};
 
 /// In a permitted history a submission that is done keeps its outcome, and the entry that decided it, whatever follows.
 pub fn done_is_final()
     ensures { DoneIsFinal }
+{}
+
+/// Once a session ended, none of its submissions waits or is live.
+pub fn none_is_left()
+    ensures { NoneLeft }
+{}
+
+/// In a permitted history a submission that waits has used fewer tries than the settings allow, and one that is live no
+/// more.
+pub fn tries_are_left()
+    ensures { TriesLeft }
 {}
