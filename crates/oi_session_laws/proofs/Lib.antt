@@ -2,3 +2,4 @@ pub mod Moved
 pub mod Stays
 pub mod Tries
 pub mod Ends
+pub mod Generations

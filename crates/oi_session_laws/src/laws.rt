@@ -1,4 +1,5 @@
 ghost use Rattle.oi_session_laws.specs.Ends.{NoneLeft, TriesLeft};
+ghost use Rattle.oi_session_laws.specs.Generations.{OthersDecideNothing};
 ghost use Rattle.oi_session_laws.specs.Stays.{DoneIsFinal};
 
 /// In a permitted history a submission that is done keeps its outcome, and the entry that decided it, whatever follows.
@@ -15,4 +16,11 @@ pub fn none_is_left()
 /// more.
 pub fn tries_are_left()
     ensures { TriesLeft }
+{}
+
+/// A PDU of another connection than that of the last login changes no submission, nor the window, the phase, the error
+/// handler or anything else, and hands out nothing. This holds of every history. Where it is a task management response, the
+/// half that sends is told ExpStatSN and the count of submissions that are not done, as they stand.
+pub fn other_connections_decide_nothing()
+    ensures { OthersDecideNothing }
 {}

@@ -4,4 +4,4 @@
 
 mod laws;
 
-pub use laws::{done_is_final, none_is_left, tries_are_left};
+pub use laws::{done_is_final, none_is_left, other_connections_decide_nothing, tries_are_left};
