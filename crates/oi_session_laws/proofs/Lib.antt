@@ -3,3 +3,4 @@ pub mod Stays
 pub mod Tries
 pub mod Ends
 pub mod Generations
+pub mod Numbers

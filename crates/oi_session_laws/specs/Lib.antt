@@ -1,3 +1,4 @@
 pub mod Ends
 pub mod Generations
+pub mod Numbers
 pub mod Stays

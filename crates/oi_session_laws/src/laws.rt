@@ -1,5 +1,6 @@
 ghost use Rattle.oi_session_laws.specs.Ends.{NoneLeft, TriesLeft};
 ghost use Rattle.oi_session_laws.specs.Generations.{OthersDecideNothing};
+ghost use Rattle.oi_session_laws.specs.Numbers.{InsideWindow, NextFollows, Successive};
 ghost use Rattle.oi_session_laws.specs.Stays.{DoneIsFinal};
 
 /// In a permitted history a submission that is done keeps its outcome, and the entry that decided it, whatever follows.
@@ -23,4 +24,20 @@ pub fn tries_are_left()
 /// half that sends is told ExpStatSN and the count of submissions that are not done, as they stand.
 pub fn other_connections_decide_nothing()
     ensures { OthersDecideNothing }
+{}
+
+/// In a permitted history the commands since the last login have its CmdSN and the successors of it, without a gap.
+pub fn command_numbers_successive()
+    ensures { Successive }
+{}
+
+/// In a permitted history CmdSN is that of the last login, moved by one for each command since. So a task management
+/// request, a NOP-Out and a Logout Request, which are immediate, carry it and do not move it.
+pub fn command_number_moves_by_commands()
+    ensures { NextFollows }
+{}
+
+/// In a permitted history the CmdSN of a command is MaxCmdSN at its entry, or comes before it.
+pub fn command_numbers_inside_window()
+    ensures { InsideWindow }
 {}

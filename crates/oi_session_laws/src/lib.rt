@@ -4,4 +4,7 @@
 
 mod laws;
 
-pub use laws::{done_is_final, none_is_left, other_connections_decide_nothing, tries_are_left};
+pub use laws::{
+    command_number_moves_by_commands, command_numbers_inside_window, command_numbers_successive,
+    done_is_final, none_is_left, other_connections_decide_nothing, tries_are_left,
+};
