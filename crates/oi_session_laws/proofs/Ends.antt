@@ -34,7 +34,7 @@ end_all a at [] = tt
 end_all a at (t ∷ ts) = (end_done a at t t.fate refl, end_all a at ts)
 
 -- no PDU counts in a session that ended
-not_current : (generation : ℕ) (p : Phase) (broken : Option _) → is_ended p ≡ true → is_current generation p broken ≡ false
+pub not_current : (generation : ℕ) (p : Phase) (broken : Option _) → is_ended p ≡ true → is_current generation p broken ≡ false
 not_current generation (LoggedIn g) broken is = absurd cc
 not_current generation First broken is = refl
 not_current generation (Recovering since) broken is = refl

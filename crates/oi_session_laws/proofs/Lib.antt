@@ -4,3 +4,5 @@ pub mod Tries
 pub mod Ends
 pub mod Generations
 pub mod Numbers
+pub mod Counted
+pub mod Handed

@@ -1,3 +1,4 @@
+ghost use Rattle.oi_session_laws.specs.Answers.{AtMostOnce, ExactlyOnce, IdsInOrder, OnceBehindEnd};
 ghost use Rattle.oi_session_laws.specs.Ends.{NoneLeft, TriesLeft};
 ghost use Rattle.oi_session_laws.specs.Generations.{OthersDecideNothing};
 ghost use Rattle.oi_session_laws.specs.Numbers.{InsideWindow, NextFollows, Successive};
@@ -40,4 +41,24 @@ pub fn command_number_moves_by_commands()
 /// In a permitted history the CmdSN of a command is MaxCmdSN at its entry, or comes before it.
 pub fn command_numbers_inside_window()
     ensures { InsideWindow }
+{}
+
+/// In a permitted history the ids of the submissions are given in order, from 0.
+pub fn ids_are_in_order()
+    ensures { IdsInOrder }
+{}
+
+/// In a permitted history no submission is handed out twice.
+pub fn answered_at_most_once()
+    ensures { AtMostOnce }
+{}
+
+/// In a permitted history that ended, and of which nothing is due, each submission was handed out exactly once.
+pub fn answered_exactly_once()
+    ensures { ExactlyOnce }
+{}
+
+/// In a permitted history in which outcomes were handed out behind the end, each submission was handed out exactly once.
+pub fn answered_once_behind_end()
+    ensures { OnceBehindEnd }
 {}
