@@ -29,7 +29,7 @@ end_done a at t (Waiting tries) is = refl
 end_done a at t (Live generation tag tries) is = refl
 end_done a at t (Done outcome n) is = ap is_done is
 
-end_all : (a at : ℕ) (ts : List Task) → AreDone (map (hit_by a at ByEnd) ts)
+pub end_all : (a at : ℕ) (ts : List Task) → AreDone (map (hit_by a at ByEnd) ts)
 end_all a at [] = tt
 end_all a at (t ∷ ts) = (end_done a at t t.fate refl, end_all a at ts)
 

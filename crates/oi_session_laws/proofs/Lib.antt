@@ -6,3 +6,5 @@ pub mod Generations
 pub mod Numbers
 pub mod Counted
 pub mod Handed
+pub mod TagCounts
+pub mod Tags

@@ -1,8 +1,8 @@
 -- What an entry makes of each submission.
-use Rattle.std.proofs.Common.{◌≡◌, ◌≤◌, ◌<◌, ◌+◌, ◌-◌, ◌==◌, ◌&&◌, ℕ, suc, zero, Bool, true, false, not, List, [], ◌∷◌, ◌++◌, length, map, ap, subst, sym, refl, arith, nat_lt, Option, Some, None, slice_get, if◌then◌else◌}
+use Rattle.std.proofs.Common.{◌≡◌, ◌≤◌, ◌<◌, ◌+◌, ◌-◌, ◌==◌, ◌&&◌, ℕ, suc, zero, Bool, true, false, not, List, [], ◌∷◌, ◌++◌, length, map, ap, subst, sym, refl, arith, nat_lt, get_or, Option, Some, None, slice_get, if◌then◌else◌}
 use Rattle.std.proofs.lemmas.Bool.Decides.{nat_tests}
 use Rattle.std.proofs.lemmas.List.Quantifiers.{position-Some}
-use Rattle.std.proofs.lemmas.Option.{get_or_from_slice_get}
+use Rattle.std.proofs.lemmas.Option.{get_or_from_slice_get, slice_get-get_or}
 use Rattle.std.specs.Option.{option_map_or}
 use Rattle.oi_history.specs.Commands.{command_of}
 use Rattle.oi_history.specs.Courses.{is_at_once, is_fail_fast, is_overdue}
@@ -78,7 +78,7 @@ AreMoved e a (t ∷ ts) (u ∷ us) = Moves e a t u × AreMoved e a ts us
 stays : (e : Event) (a : ℕ) (t : Task) → Moves e a t t
 stays e a t = record { done = λ outcome at is. is; told = λ quiet. refl; over = λ tag other is. is; tries = λ one has. has }
 
-moved-stays : (e : Event) (a : ℕ) (ts : List Task) → AreMoved e a ts ts
+pub moved-stays : (e : Event) (a : ℕ) (ts : List Task) → AreMoved e a ts ts
 moved-stays e a [] = tt
 moved-stays e a (t ∷ ts) = (stays e a t, moved-stays e a ts)
 
@@ -278,6 +278,13 @@ sendable_waits depth id ts t is there =
     let found = position-Some (λ (x : Task). is_waiting x.fate && nat_lt (live_on_lun x.command.lun ts) depth) ts id t is in
     let both = subst (λ (x : Task). (is_waiting x.fate && nat_lt (live_on_lun x.command.lun ts) depth) ≡ true) (get_or_from_slice_get ts id t t there) found.1 in
     and_first (is_waiting t.fate) (nat_lt (live_on_lun t.command.lun ts) depth) both
+
+-- and it is there
+pub sendable_there : (depth id : ℕ) (ts : List Task) → sendable depth ts ≡ Some id → (t : Task) × (slice_get ts id ≡ Some t)
+sendable_there depth id [] is = absurd cc
+sendable_there depth id (t ∷ ts) is =
+    let found = position-Some (λ (x : Task). is_waiting x.fate && nat_lt (live_on_lun x.command.lun (t ∷ ts)) depth) (t ∷ ts) id t is in
+    (get_or (t ∷ ts) id t, slice_get-get_or (t ∷ ts) id t found.0)
 
 waiting_not_done : (f : Fate) → is_waiting f ≡ true → is_done f ≡ false
 waiting_not_done (Waiting tries) is = refl

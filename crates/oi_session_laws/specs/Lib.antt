@@ -3,3 +3,4 @@ pub mod Ends
 pub mod Generations
 pub mod Numbers
 pub mod Stays
+pub mod Tags

@@ -3,6 +3,7 @@ ghost use Rattle.oi_session_laws.specs.Ends.{NoneLeft, TriesLeft};
 ghost use Rattle.oi_session_laws.specs.Generations.{OthersDecideNothing};
 ghost use Rattle.oi_session_laws.specs.Numbers.{InsideWindow, NextFollows, Successive};
 ghost use Rattle.oi_session_laws.specs.Stays.{DoneIsFinal};
+ghost use Rattle.oi_session_laws.specs.Tags.{IdsDiffer, TagsDiffer};
 
 /// In a permitted history a submission that is done keeps its outcome, and the entry that decided it, whatever follows.
 pub fn done_is_final()
@@ -61,4 +62,14 @@ pub fn answered_exactly_once()
 /// In a permitted history in which outcomes were handed out behind the end, each submission was handed out exactly once.
 pub fn answered_once_behind_end()
     ensures { OnceBehindEnd }
+{}
+
+/// In a permitted history no initiator task tag is allocated to two commands, or allocated and free.
+pub fn allocated_tags_differ()
+    ensures { TagsDiffer }
+{}
+
+/// In a permitted history no submission has two allocated tags, though one that ended may not be released yet.
+pub fn allocated_ids_differ()
+    ensures { IdsDiffer }
 {}

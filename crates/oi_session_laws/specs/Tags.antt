@@ -1,0 +1,55 @@
+-- Tags in use differ (RFC 7143, section 11.2.1.8).
+use Rattle.std.specs.Prelude.{◌≡◌, ◌≤◌, ◌+◌, ◌==◌, ◌++◌, ℕ, List, [], ◌∷◌, length, if◌then◌else◌, suc, zero}
+use Rattle.oi_base.specs.Counts.{bit}
+use Rattle.oi_base.specs.Limits.{most_management_tags}
+use Rattle.oi_base.specs.TagLayout.{age_after, management_tag, reserved_tag}
+use Rattle.oi_base.specs.declared.tag.Tag.{Tag}
+use Rattle.oi_history.specs.Meanings.{meanings}
+use Rattle.oi_history.specs.Permitted.{ArePermitted}
+use Rattle.oi_history.specs.declared.allocated.Allocated.{Allocated}
+use Rattle.oi_history.specs.declared.config.SessionConfig.{SessionConfig}
+use Rattle.oi_history.specs.declared.event.Event.{Event}
+use Rattle.oi_history.specs.declared.event.Event.TheVariants.{Login, Manage, Nop, Logout}
+use Rattle.oi_history.specs.declared.event.Numbered.{Numbered}
+use Rattle.oi_laws.specs.Tags.{allocations, copies}
+
+-- how many tags a submission has in use
+abbrev pub holdings : ℕ → List Allocated → ℕ
+holdings id [] = 0
+holdings id (a ∷ busy) = bit (a.id == id) + holdings id busy
+
+-- no tag is allocated twice, none is free twice, and none is both
+abbrev pub TagsDiffer : Type 0
+TagsDiffer =
+    (C : SessionConfig) (H : List Numbered) → ArePermitted C H → (tag : ℕ) → allocations tag (meanings C H).busy + copies tag (meanings C H).free ≤ 1
+
+-- no submission has two of them, though an ended one may not be released yet
+abbrev pub IdsDiffer : Type 0
+IdsDiffer = (C : SessionConfig) (H : List Numbered) → ArePermitted C H → (id : ℕ) → holdings id (meanings C H).busy ≤ 1
+
+-- the tags of the requests that are no commands, since the last login, in order; an answer to a NOP-In has none
+abbrev pub given_after : Event → List Tag → List Tag
+given_after (Login generation params cmdsn max exp_stat) tags = []
+given_after (Manage generation tag function subject) tags = tags ++ tag ∷ []
+given_after (Logout generation tag) tags = tags ++ tag ∷ []
+given_after (Nop generation tag ttt lun) tags = if tag == reserved_tag then tags else tags ++ record { 0 = tag } ∷ []
+given_after e tags = tags
+
+abbrev pub given_tags : List Numbered → List Tag
+given_tags [] = []
+given_tags (n ∷ H) = given_after n.event (given_tags H)
+
+-- so many management tags of a connection, in order
+abbrev pub management_tags : ℕ → ℕ → List Tag
+management_tags age zero = []
+management_tags age (suc n) = management_tags age n ++ record { 0 = management_tag age n } ∷ []
+
+-- they are the management tags of the connection in order, and no more than there are
+abbrev pub GivenInOrder : Type 0
+GivenInOrder =
+    (C : SessionConfig) (H : List Numbered) → ArePermitted C H
+    → (given_tags H ≡ management_tags (age_after (meanings C H).generation) (length (given_tags H))) × (length (given_tags H) ≤ most_management_tags)
+
+-- so none is given twice
+abbrev pub GivenDiffer : Type 0
+GivenDiffer = (C : SessionConfig) (H : List Numbered) → ArePermitted C H → (tag : ℕ) → copies tag (given_tags H) ≤ 1
