@@ -8,3 +8,4 @@ pub mod Counted
 pub mod Handed
 pub mod TagCounts
 pub mod Tags
+pub mod Management

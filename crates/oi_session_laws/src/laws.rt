@@ -3,7 +3,7 @@ ghost use Rattle.oi_session_laws.specs.Ends.{NoneLeft, TriesLeft};
 ghost use Rattle.oi_session_laws.specs.Generations.{OthersDecideNothing};
 ghost use Rattle.oi_session_laws.specs.Numbers.{InsideWindow, NextFollows, Successive};
 ghost use Rattle.oi_session_laws.specs.Stays.{DoneIsFinal};
-ghost use Rattle.oi_session_laws.specs.Tags.{IdsDiffer, TagsDiffer};
+ghost use Rattle.oi_session_laws.specs.Tags.{GivenDiffer, GivenInOrder, IdsDiffer, TagsDiffer};
 
 /// In a permitted history a submission that is done keeps its outcome, and the entry that decided it, whatever follows.
 pub fn done_is_final()
@@ -72,4 +72,15 @@ pub fn allocated_tags_differ()
 /// In a permitted history no submission has two allocated tags, though one that ended may not be released yet.
 pub fn allocated_ids_differ()
     ensures { IdsDiffer }
+{}
+
+/// In a permitted history the task management requests, pings and Logout Requests since the last login have the management
+/// tags of its connection in order, and at most as many as a connection may give.
+pub fn management_tags_are_in_order()
+    ensures { GivenInOrder }
+{}
+
+/// In a permitted history no management tag is given twice on a connection.
+pub fn management_tags_differ()
+    ensures { GivenDiffer }
 {}
