@@ -1,10 +1,10 @@
 -- In a session that ended each submission is done.
-use Rattle.std.proofs.Common.{◌≡◌, ℕ, ℤ, suc, zero, Bool, true, false, ◌&&◌, List, [], ◌∷◌, map, ap, subst, sym, refl, Option, Some, if◌then◌else◌}
+use Rattle.std.proofs.Common.{◌≡◌, ℕ, ℤ, suc, zero, Bool, true, false, ◌&&◌, ◌||◌, ◌∙◌, List, [], ◌∷◌, map, ap, subst, sym, refl, Option, Some, if◌then◌else◌}
 use Rattle.oi_history.specs.Acceptance.{is_current}
 use Rattle.oi_history.specs.Courses.{given_up, is_at_once, is_overdue, phase_step}
 use Rattle.oi_history.specs.Meanings.{Meanings, accepted_in, is_current_in, meanings}
 use Rattle.oi_history.specs.Permitted.{ArePermitted, StandsBehind}
-use Rattle.oi_history.specs.Phases.{is_ended}
+use Rattle.oi_history.specs.Phases.{ended_by, is_ended}
 use Rattle.oi_history.specs.Recovering.{hit_by, hit_in, tasks_step}
 use Rattle.oi_history.specs.Tasks.{is_done, told_task}
 use Rattle.oi_history.specs.declared.config.SessionConfig.{SessionConfig}
@@ -13,12 +13,14 @@ use Rattle.oi_history.specs.declared.event.Event.TheVariants.{PduIn, Deliver, Lo
 use Rattle.oi_history.specs.declared.event.Numbered.{Numbered}
 use Rattle.oi_history.specs.declared.fate.Fate.{Fate}
 use Rattle.oi_history.specs.declared.fate.Fate.TheVariants.{Waiting, Live, Done}
+use Rattle.oi_history.specs.declared.phase.End.{End}
 use Rattle.oi_history.specs.declared.phase.Phase.{Phase}
 use Rattle.oi_history.specs.declared.phase.Phase.TheVariants.{First, LoggedIn, Recovering, FailFast, Ended}
 use Rattle.oi_history.specs.declared.task.Task.{Task}
 use Rattle.oi_laws.proofs.Ends.{AreDone}
 use Rattle.oi_laws.specs.Stays.{fate_at}
 use Rattle.oi_recovery.specs.declared.hit.Hit.TheVariants.{Ended as ByEnd}
+use Rattle.oi_session_laws.specs.Ends.{has_end, is_end}
 
 pub done-told : (ts : List Task) → AreDone ts → AreDone (map told_task ts)
 done-told [] p = tt
@@ -86,3 +88,34 @@ done_fate (suc id) (t ∷ ts) f p is = done_fate id ts f p.1 is
 pub none_left : (C : SessionConfig) (H : List Numbered) → ArePermitted C H → is_ended (meanings C H).phase ≡ true
     → (id : ℕ) (fate : Fate) → fate_at id (meanings C H).tasks ≡ Some fate → is_done fate ≡ true
 none_left C H legal is id fate there = done_fate id (meanings C H).tasks fate (ended_done C H legal is) there
+
+-- a session is over by the entry that ends it
+
+end_ended : (cause : End) (p : Phase) → is_ended (ended_by cause p) ≡ true
+end_ended cause First = refl
+end_ended cause (LoggedIn generation) = refl
+end_ended cause (Recovering since) = refl
+end_ended cause (FailFast since) = refl
+end_ended cause (Ended first) = refl
+
+without_on : (b : Bool) (now : ℕ) → is_ended (if b then FailFast now else Recovering now) ≡ false
+without_on true now = refl
+without_on false now = refl
+
+tick_on : (replacement : ℤ) (now : ℕ) (p : Phase) → is_ended (given_up replacement now p) ≡ is_ended p
+tick_on replacement now (Recovering since) = without_on (is_overdue replacement now (Recovering since)) since
+tick_on replacement now First = refl
+tick_on replacement now (LoggedIn generation) = refl
+tick_on replacement now (FailFast since) = refl
+tick_on replacement now (Ended cause) = refl
+
+over_after : (C : SessionConfig) (m : Meanings) (e : Event) (b : Bool) → StandsBehind m e → is_ended m.phase ≡ b → is_ended (phase_step C m.clock e m.phase) ≡ (is_end e || b)
+over_after C m (Terminate cause) b behind is = end_ended cause m.phase
+over_after C m (Login generation params cmdsn max exp_stat) b behind is = sym behind ∙ is
+over_after C m (Lost generation cause) b behind is = without_on (is_at_once C.replacement) m.clock ∙ (sym behind ∙ is)
+over_after C m (Tick reading) b behind is = tick_on C.replacement reading m.phase ∙ is
+over_after C m e b behind is = is
+
+pub over_by_end : (C : SessionConfig) (H : List Numbered) → ArePermitted C H → is_ended (meanings C H).phase ≡ has_end H
+over_by_end C [] legal = refl
+over_by_end C (n ∷ H) legal = over_after C (meanings C H) n.event (has_end H) legal.0.behind (over_by_end C H legal.1)

@@ -2,32 +2,29 @@
 use Rattle.std.proofs.Common.{◌≡◌, ◌<◌, ◌≤◌, ◌+◌, ◌∙◌, ◌&&◌, ◌||◌, ℕ, suc, zero, Bool, true, false, List, [], ◌∷◌, ◌++◌, length, map, ap, subst, sym, refl, arith, nat_lt}
 use Rattle.std.proofs.lemmas.Bool.Decides.{nat_tests}
 use Rattle.oi_base.specs.Counts.{bit}
-use Rattle.oi_history.specs.Courses.{phase_step}
 use Rattle.oi_history.specs.Meanings.{Meanings, accepted_in, handed_in, handed_so_far, is_current_in, meanings}
 use Rattle.oi_history.specs.Permitted.{ArePermitted, IsNextCommand, StandsBehind}
-use Rattle.oi_history.specs.Phases.{ended_by, is_ended}
+use Rattle.oi_history.specs.Phases.{is_ended}
 use Rattle.oi_history.specs.Recovering.{tasks_step}
 use Rattle.oi_history.specs.Tasks.{due_in, is_done, told_task}
 use Rattle.oi_history.specs.declared.config.SessionConfig.{SessionConfig}
 use Rattle.oi_history.specs.declared.event.Event.{Event}
-use Rattle.oi_history.specs.declared.event.Event.TheVariants.{PduIn, Deliver, Terminate}
+use Rattle.oi_history.specs.declared.event.Event.TheVariants.{PduIn, Deliver}
 use Rattle.oi_history.specs.declared.event.Numbered.{Numbered}
 use Rattle.oi_history.specs.declared.fate.Delivered.{Delivered}
 use Rattle.oi_history.specs.declared.fate.Fate.{Fate}
 use Rattle.oi_history.specs.declared.fate.Fate.TheVariants.{Waiting, Live, Done}
 use Rattle.oi_history.specs.declared.fate.Outcome.{Outcome}
-use Rattle.oi_history.specs.declared.phase.End.{End}
-use Rattle.oi_history.specs.declared.phase.Phase.{Phase}
-use Rattle.oi_history.specs.declared.phase.Phase.TheVariants.{First, LoggedIn, Recovering, FailFast, Ended}
 use Rattle.oi_history.specs.declared.task.Task.{Task}
 use Rattle.oi_laws.proofs.Ends.{AreDone}
 use Rattle.oi_laws.proofs.Handed.{done_at, due_all}
 use Rattle.oi_laws.proofs.Told.{AreSound, told_at}
 use Rattle.oi_laws.specs.Answers.{times}
 use Rattle.oi_session_laws.proofs.Counted.{ids_in_order}
-use Rattle.oi_session_laws.proofs.Ends.{ended_done, not_current, off}
+use Rattle.oi_session_laws.proofs.Ends.{ended_done, not_current, off, over_by_end}
 use Rattle.oi_session_laws.proofs.Moved.{AreMoved, AreNew, hands_out, moved_after}
-use Rattle.oi_session_laws.specs.Answers.{hands_behind_end, has_end, is_end, is_handing, was_submitted}
+use Rattle.oi_session_laws.specs.Answers.{hands_behind_end, is_handing, was_submitted}
+use Rattle.oi_session_laws.specs.Ends.{has_end, is_end}
 
 times-append : (id : ℕ) (xs ys : List Delivered) → times id (xs ++ ys) ≡ times id xs + times id ys
 times-append id [] ys = omega arith
@@ -140,23 +137,8 @@ exactly_once C H legal is none id submitted =
 
 -- where outcomes were handed out behind the end
 
-end_ended : (cause : End) (p : Phase) → is_ended (ended_by cause p) ≡ true
-end_ended cause First = refl
-end_ended cause (LoggedIn generation) = refl
-end_ended cause (Recovering since) = refl
-end_ended cause (FailFast since) = refl
-end_ended cause (Ended first) = refl
-
-end_after : (C : SessionConfig) (m : Meanings) (e : Event) (b : Bool) → StandsBehind m e → (b ≡ true → is_ended m.phase ≡ true) → (is_end e || b) ≡ true
-    → is_ended (phase_step C m.clock e m.phase) ≡ true
-end_after C m (Terminate cause) b behind p is = end_ended cause m.phase
-end_after C m (PduIn generation pdu) b behind p is = p is
-end_after C m (Deliver count) b behind p is = p is
-end_after C m e b behind p is = let on : is_ended m.phase ≡ true = p is in absurd cc
-
-pub end_is_there : (C : SessionConfig) (H : List Numbered) → ArePermitted C H → has_end H ≡ true → is_ended (meanings C H).phase ≡ true
-end_is_there C [] legal is = absurd cc
-end_is_there C (n ∷ H) legal is = end_after C (meanings C H) n.event (has_end H) legal.0.behind (end_is_there C H legal.1) is
+end_is_there : (C : SessionConfig) (H : List Numbered) → ArePermitted C H → has_end H ≡ true → is_ended (meanings C H).phase ≡ true
+end_is_there C H legal is = over_by_end C H legal ∙ is
 
 end_behind : (x b c : Bool) → (c ≡ true → b ≡ true) → ((x && b) || c) ≡ true → b ≡ true
 end_behind true true c p is = refl

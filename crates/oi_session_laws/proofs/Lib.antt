@@ -9,3 +9,4 @@ pub mod Handed
 pub mod TagCounts
 pub mod Tags
 pub mod Management
+pub mod Connections

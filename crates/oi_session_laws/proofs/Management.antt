@@ -25,71 +25,71 @@ use Rattle.oi_window.specs.Numbering.{is_open, next_of}
 
 -- a request that is owed has the next management tag, or none
 
-abbrev pub IsNextTag : ℕ → Event → Type 0
-IsNextTag next (Manage generation tag function subject) = tag.0 ≡ next
-IsNextTag next (Logout generation tag) = tag.0 ≡ next
-IsNextTag next (Nop generation tag ttt lun) = (tag ≡ reserved_tag) ⊎ (tag ≡ next)
-IsNextTag next e = Unit {0}
+abbrev pub IsNextTag : ℕ → ℕ → Event → Type 0
+IsNextTag last next (Manage generation tag function subject) = (generation ≡ last) × (tag.0 ≡ next)
+IsNextTag last next (Logout generation tag) = (generation ≡ last) × (tag.0 ≡ next)
+IsNextTag last next (Nop generation tag ttt lun) = (generation ≡ last) × ((tag ≡ reserved_tag) ⊎ (tag ≡ next))
+IsNextTag last next e = Unit {0}
 
-abbrev pub AreNextTags : ℕ → List Event → Type 0
-AreNextTags next [] = Unit {0}
-AreNextTags next (e ∷ es) = IsNextTag next e × AreNextTags next es
+abbrev pub AreNextTags : ℕ → ℕ → List Event → Type 0
+AreNextTags last next [] = Unit {0}
+AreNextTags last next (e ∷ es) = IsNextTag last next e × AreNextTags last next es
 
-next-else : (next : ℕ) (xs ys : List Event) → AreNextTags next xs → AreNextTags next ys → AreNextTags next (or_else xs ys)
-next-else next [] ys p q = q
-next-else next (x ∷ xs) ys p q = p
+next-else : (last next : ℕ) (xs ys : List Event) → AreNextTags last next xs → AreNextTags last next ys → AreNextTags last next (or_else xs ys)
+next-else last next [] ys p q = q
+next-else last next (x ∷ xs) ys p q = p
 
-next-if : (next : ℕ) (b : Bool) (xs ys : List Event) → AreNextTags next xs → AreNextTags next ys → AreNextTags next (if b then xs else ys)
-next-if next true xs ys p q = p
-next-if next false xs ys p q = q
+next-if : (last next : ℕ) (b : Bool) (xs ys : List Event) → AreNextTags last next xs → AreNextTags last next ys → AreNextTags last next (if b then xs else ys)
+next-if last next true xs ys p q = p
+next-if last next false xs ys p q = q
 
-queued_tags : (next generation : ℕ) (queue : List Queued) → AreNextTags next (queued_next generation queue)
-queued_tags next generation [] = tt
-queued_tags next generation (q ∷ queue) = (tt, tt)
+queued_tags : (last next : ℕ) (queue : List Queued) → AreNextTags last next (queued_next last queue)
+queued_tags last next [] = tt
+queued_tags last next (q ∷ queue) = (tt, tt)
 
-managed_tags : (generation : ℕ) (tag : Tag) (handler : Handler) → AreNextTags tag.0 (managed_next generation tag handler)
-managed_tags generation tag (Aborting id None since) = (refl, tt)
-managed_tags generation tag (ResettingLun lun None since) = (refl, tt)
-managed_tags generation tag (ResettingTarget None since) = (refl, tt)
-managed_tags generation tag handler = tt
+managed_tags : (last : ℕ) (tag : Tag) (handler : Handler) → AreNextTags last tag.0 (managed_next last tag handler)
+managed_tags last tag (Aborting id None since) = ((refl, refl), tt)
+managed_tags last tag (ResettingLun lun None since) = ((refl, refl), tt)
+managed_tags last tag (ResettingTarget None since) = ((refl, refl), tt)
+managed_tags last tag handler = tt
 
-echo_tags : (next generation : ℕ) (echoes : List Echo) → AreNextTags next (echo_next generation echoes)
-echo_tags next generation [] = tt
-echo_tags next generation (e ∷ echoes) = (inl refl, tt)
+echo_tags : (last next : ℕ) (echoes : List Echo) → AreNextTags last next (echo_next last echoes)
+echo_tags last next [] = tt
+echo_tags last next (e ∷ echoes) = ((refl, inl refl), tt)
 
-drawn_tags : (next generation count : ℕ) (queue : List Queued) → AreNextTags next (drawn_with generation count queue)
-drawn_tags next generation count [] = tt
-drawn_tags next generation count (q ∷ queue) = (tt, (tt, tt))
+drawn_tags : (last next count : ℕ) (queue : List Queued) → AreNextTags last next (drawn_with last count queue)
+drawn_tags last next count [] = tt
+drawn_tags last next count (q ∷ queue) = (tt, (tt, tt))
 
-issue_tags : (next generation cmdsn : ℕ) (id : Option ℕ) (tag : Option Tag) → AreNextTags next (issue_with generation cmdsn id tag)
-issue_tags next generation cmdsn (Some id) (Some tag) = (tt, tt)
-issue_tags next generation cmdsn None tag = tt
-issue_tags next generation cmdsn (Some id) None = tt
+issue_tags : (last next cmdsn : ℕ) (id : Option ℕ) (tag : Option Tag) → AreNextTags last next (issue_with last cmdsn id tag)
+issue_tags last next cmdsn (Some id) (Some tag) = (tt, tt)
+issue_tags last next cmdsn None tag = tt
+issue_tags last next cmdsn (Some id) None = tt
 
-logout_tags : (generation : ℕ) (m : Meanings) → AreNextTags (next_management m).0 (logout_next generation m)
-logout_tags generation m = next-if (next_management m).0 m.leaving (Logout generation (next_management m) ∷ []) [] (refl, tt) tt
+logout_tags : (last : ℕ) (m : Meanings) → AreNextTags last (next_management m).0 (logout_next last m)
+logout_tags last m = next-if last (next_management m).0 m.leaving (Logout last (next_management m) ∷ []) [] ((refl, refl), tt) tt
 
-ping_tags : (C : SessionConfig) (generation : ℕ) (m : Meanings) → AreNextTags (next_management m).0 (ping_next C generation m)
-ping_tags C generation m = next-if (next_management m).0 _ (Nop generation (next_management m).0 reserved_tag _ ∷ []) [] (inr refl, tt) tt
+ping_tags : (C : SessionConfig) (last : ℕ) (m : Meanings) → AreNextTags last (next_management m).0 (ping_next C last m)
+ping_tags C last m = next-if last (next_management m).0 _ (Nop last (next_management m).0 reserved_tag _ ∷ []) [] ((refl, inr refl), tt) tt
 
-command_tags : (C : SessionConfig) (generation : ℕ) (m : Meanings) → AreNextTags (next_management m).0 (issue_next C generation m)
-command_tags C generation m =
-    next-if (next_management m).0 (is_idle m.handler && not m.leaving && is_open m.window) (issue_with generation (next_of m.window) (sendable C.queue_depth m.tasks) (slice_get m.free 0)) []
-    (issue_tags (next_management m).0 generation (next_of m.window) (sendable C.queue_depth m.tasks) (slice_get m.free 0)) tt
+command_tags : (C : SessionConfig) (last : ℕ) (m : Meanings) → AreNextTags last (next_management m).0 (issue_next C last m)
+command_tags C last m =
+    next-if last (next_management m).0 (is_idle m.handler && not m.leaving && is_open m.window) (issue_with last (next_of m.window) (sendable C.queue_depth m.tasks) (slice_get m.free 0)) []
+    (issue_tags last (next_management m).0 (next_of m.window) (sendable C.queue_depth m.tasks) (slice_get m.free 0)) tt
 
-later_tags : (C : SessionConfig) (generation : ℕ) (m : Meanings) → AreNextTags (next_management m).0 (next_after_data C generation m)
-later_tags C generation m =
-    next-else _ (logout_next generation m) _ (logout_tags generation m)
-    (next-else _ (managed_next generation (next_management m) m.handler) _ (managed_tags generation (next_management m) m.handler)
-    (next-else _ (echo_next generation m.echoes) _ (echo_tags (next_management m).0 generation m.echoes)
-    (next-else _ (ping_next C generation m) _ (ping_tags C generation m)
-    (next-else _ (drawn_next generation m) (issue_next C generation m) (drawn_tags (next_management m).0 generation _ _) (command_tags C generation m)))))
+later_tags : (C : SessionConfig) (last : ℕ) (m : Meanings) → AreNextTags last (next_management m).0 (next_after_data C last m)
+later_tags C last m =
+    next-else last _ (logout_next last m) _ (logout_tags last m)
+    (next-else last _ (managed_next last (next_management m) m.handler) _ (managed_tags last (next_management m) m.handler)
+    (next-else last _ (echo_next last m.echoes) _ (echo_tags last (next_management m).0 m.echoes)
+    (next-else last _ (ping_next C last m) _ (ping_tags C last m)
+    (next-else last _ (drawn_next last m) (issue_next C last m) (drawn_tags last (next_management m).0 _ _) (command_tags C last m)))))
 
-owed_tags : (C : SessionConfig) (generation : ℕ) (m : Meanings) → AreNextTags (next_management m).0 (next_in C generation m)
-owed_tags C generation m =
-    next-if _ (m.logout_sent || not (has_connection m.phase)) [] _ tt
-    (next-else _ (queued_next generation m.queue) _ (queued_tags (next_management m).0 generation m.queue)
-    (next-if _ (is_some m.broken) [] (next_after_data C generation m) tt (later_tags C generation m)))
+owed_tags : (C : SessionConfig) (last : ℕ) (m : Meanings) → AreNextTags last (next_management m).0 (next_in C last m)
+owed_tags C last m =
+    next-if last _ (m.logout_sent || not (has_connection m.phase)) [] _ tt
+    (next-else last _ (queued_next last m.queue) _ (queued_tags last (next_management m).0 m.queue)
+    (next-if last _ (is_some m.broken) [] (next_after_data C last m) tt (later_tags C last m)))
 
 -- the release of tags gives none
 
@@ -97,11 +97,11 @@ released_next : (C : SessionConfig) (tags : List Tag) (H : List Numbered) → (n
 released_next C [] H = refl
 released_next C (tag ∷ tags) H = released_next C tags (record { number = length H; event = Reap tag } ∷ H)
 
-owed_one : (C : SessionConfig) (H : List Numbered) (e : Event) → owed C H ≡ e ∷ [] → IsNextTag (next_management (meanings C H)).0 e
+pub owed_one : (C : SessionConfig) (H : List Numbered) (e : Event) → owed C H ≡ e ∷ [] → IsNextTag (meanings C H).generation (next_management (meanings C H)).0 e
 owed_one C H e is =
     let all = owed_tags C (meanings C H).generation (meanings C (released C H)) in
-    let one = subst (λ (es : List Event). AreNextTags (next_management (meanings C (released C H))).0 es) is all in
-    subst (λ (next : ℕ). IsNextTag next e) (released_next C (meanings C H).ended H) one.0
+    let one = subst (λ (es : List Event). AreNextTags (meanings C H).generation (next_management (meanings C (released C H))).0 es) is all in
+    subst (λ (next : ℕ). IsNextTag (meanings C H).generation next e) (released_next C (meanings C H).ended H) one.0
 
 -- counts
 
@@ -128,9 +128,9 @@ given_nop age managed tags tag false is p (inr next) few = given_one age managed
 given_step : (C : SessionConfig) (H : List Numbered) (e : Event) (tags : List Tag) → IsAsked C H e → AreGiven (age_after (meanings C H).generation) (meanings C H).managed tags
     → AreGiven (age_after (generation_after e (meanings C H).generation)) (managed_step e (meanings C H).managed) (given_after e tags)
 given_step C H (Login generation params cmdsn max exp_stat) tags asked p = record { are = refl; few = omega arith }
-given_step C H (Manage generation tag function subject) tags asked p = given_one _ _ tags tag p (owed_one C H (Manage generation tag function subject) asked.0) asked.1
-given_step C H (Logout generation tag) tags asked p = given_one _ _ tags tag p (owed_one C H (Logout generation tag) asked.0) asked.1
-given_step C H (Nop generation tag ttt lun) tags asked p = given_nop _ _ tags tag (nat_eq tag reserved_tag) refl p (owed_one C H (Nop generation tag ttt lun) asked.0) asked.1
+given_step C H (Manage generation tag function subject) tags asked p = given_one _ _ tags tag p (owed_one C H (Manage generation tag function subject) asked.0).1 asked.1
+given_step C H (Logout generation tag) tags asked p = given_one _ _ tags tag p (owed_one C H (Logout generation tag) asked.0).1 asked.1
+given_step C H (Nop generation tag ttt lun) tags asked p = given_nop _ _ tags tag (nat_eq tag reserved_tag) refl p (owed_one C H (Nop generation tag ttt lun) asked.0).1 asked.1
 given_step C H e tags asked p = p
 
 pub are_given : (C : SessionConfig) (H : List Numbered) → ArePermitted C H → AreGiven (age_after (meanings C H).generation) (meanings C H).managed (given_tags H)

@@ -6,9 +6,10 @@ use Rattle.oi_history.specs.Phases.{is_ended}
 use Rattle.oi_history.specs.Tasks.{due_in}
 use Rattle.oi_history.specs.declared.config.SessionConfig.{SessionConfig}
 use Rattle.oi_history.specs.declared.event.Event.{Event}
-use Rattle.oi_history.specs.declared.event.Event.TheVariants.{Submit, Deliver, Terminate}
+use Rattle.oi_history.specs.declared.event.Event.TheVariants.{Submit, Deliver}
 use Rattle.oi_history.specs.declared.event.Numbered.{Numbered}
 use Rattle.oi_laws.specs.Answers.{times}
+use Rattle.oi_session_laws.specs.Ends.{has_end}
 
 -- a request came in under this id
 abbrev pub is_submit : ℕ → Event → Bool
@@ -19,16 +20,7 @@ abbrev pub was_submitted : ℕ → List Numbered → Bool
 was_submitted id [] = false
 was_submitted id (n ∷ H) = is_submit id n.event || was_submitted id H
 
--- the session was ended
-abbrev pub is_end : Event → Bool
-is_end (Terminate cause) = true
-is_end e = false
-
-abbrev pub has_end : List Numbered → Bool
-has_end [] = false
-has_end (n ∷ H) = is_end n.event || has_end H
-
--- and outcomes were handed out behind its end
+-- the session was ended, and outcomes were handed out behind its end
 abbrev pub is_handing : Event → Bool
 is_handing (Deliver count) = true
 is_handing e = false

@@ -1,10 +1,12 @@
 -- What is left at the end of a session, and how many tries are used.
-use Rattle.std.specs.Prelude.{◌≡◌, ◌≤◌, ◌<◌, ℕ, true, List, Some}
+use Rattle.std.specs.Prelude.{◌≡◌, ◌≤◌, ◌<◌, ◌||◌, ℕ, Bool, true, false, List, [], ◌∷◌, Some}
 use Rattle.oi_history.specs.Meanings.{meanings}
 use Rattle.oi_history.specs.Permitted.{ArePermitted}
 use Rattle.oi_history.specs.Phases.{is_ended}
 use Rattle.oi_history.specs.Tasks.{is_done}
 use Rattle.oi_history.specs.declared.config.SessionConfig.{SessionConfig}
+use Rattle.oi_history.specs.declared.event.Event.{Event}
+use Rattle.oi_history.specs.declared.event.Event.TheVariants.{Terminate}
 use Rattle.oi_history.specs.declared.event.Numbered.{Numbered}
 use Rattle.oi_history.specs.declared.fate.Fate.{Fate}
 use Rattle.oi_history.specs.declared.fate.Fate.TheVariants.{Waiting, Live, Done}
@@ -15,6 +17,19 @@ abbrev pub HasTries : ℕ → Fate → Type 0
 HasTries allowed (Waiting tries) = tries < allowed
 HasTries allowed (Live generation tag tries) = tries ≤ allowed
 HasTries allowed (Done outcome at) = Unit {0}
+
+-- the session was ended
+abbrev pub is_end : Event → Bool
+is_end (Terminate cause) = true
+is_end e = false
+
+abbrev pub has_end : List Numbered → Bool
+has_end [] = false
+has_end (n ∷ H) = is_end n.event || has_end H
+
+-- it is over from then on, and not before
+abbrev pub OverByEnd : Type 0
+OverByEnd = (C : SessionConfig) (H : List Numbered) → ArePermitted C H → is_ended (meanings C H).phase ≡ has_end H
 
 -- once a session ended, no submission waits or is live
 abbrev pub NoneLeft : Type 0

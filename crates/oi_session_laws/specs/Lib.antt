@@ -1,4 +1,5 @@
 pub mod Answers
+pub mod Connections
 pub mod Ends
 pub mod Generations
 pub mod Numbers

@@ -1,5 +1,6 @@
+ghost use Rattle.oi_session_laws.specs.Connections.{GivenDifferOnEach, SuccessiveOnEach};
 ghost use Rattle.oi_session_laws.specs.Answers.{AtMostOnce, ExactlyOnce, IdsInOrder, OnceBehindEnd};
-ghost use Rattle.oi_session_laws.specs.Ends.{NoneLeft, TriesLeft};
+ghost use Rattle.oi_session_laws.specs.Ends.{NoneLeft, OverByEnd, TriesLeft};
 ghost use Rattle.oi_session_laws.specs.Generations.{OthersDecideNothing};
 ghost use Rattle.oi_session_laws.specs.Numbers.{InsideWindow, NextFollows, Successive};
 ghost use Rattle.oi_session_laws.specs.Stays.{DoneIsFinal};
@@ -83,4 +84,21 @@ pub fn management_tags_are_in_order()
 /// In a permitted history no management tag is given twice on a connection.
 pub fn management_tags_differ()
     ensures { GivenDiffer }
+{}
+
+/// A session of a permitted history is over from the entry that ends it on, and not before.
+pub fn sessions_end_by_their_entry()
+    ensures { OverByEnd }
+{}
+
+/// In a permitted history the commands of each connection, the last or an earlier one, have the CmdSN of its login and the
+/// successors of it, without a gap.
+pub fn command_numbers_successive_on_each()
+    ensures { SuccessiveOnEach }
+{}
+
+/// In a permitted history the task management requests, pings and Logout Requests of each connection, the last or an
+/// earlier one, have different tags.
+pub fn management_tags_differ_on_each()
+    ensures { GivenDifferOnEach }
 {}
