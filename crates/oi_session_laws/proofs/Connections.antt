@@ -26,7 +26,7 @@ abbrev pub IsOn : ℕ → Option ℕ → Type 0
 IsOn generation None = Unit {0}
 IsOn generation (Some g) = g ≡ generation
 
-logged_in : (p : Phase) (generation last : ℕ) → IsLast last p → is_logged_in p generation ≡ true → generation ≡ last
+pub logged_in : (p : Phase) (generation last : ℕ) → IsLast last p → is_logged_in p generation ≡ true → generation ≡ last
 logged_in (LoggedIn g) generation last is on = sym (equal_from g generation on) ∙ is
 logged_in First generation last is on = absurd cc
 logged_in (Recovering since) generation last is on = absurd cc

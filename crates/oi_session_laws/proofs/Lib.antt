@@ -10,3 +10,5 @@ pub mod TagCounts
 pub mod Tags
 pub mod Management
 pub mod Connections
+pub mod Holding
+pub mod Apart

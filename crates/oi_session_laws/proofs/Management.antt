@@ -163,7 +163,7 @@ above age (suc n) tag over =
     let rest = above age n tag (omega (arith, over)) in
     omega (arith, split, mine, rest)
 
-once : (age n tag : ℕ) → copies tag (management_tags age n) ≤ 1
+pub once : (age n tag : ℕ) → copies tag (management_tags age n) ≤ 1
 once age zero tag = omega arith
 once age (suc n) tag =
     let split = copies-append tag (management_tags age n) (record { 0 = management_tag age n } ∷ []) in

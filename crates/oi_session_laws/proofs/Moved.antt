@@ -51,18 +51,29 @@ abbrev pub takes : ℕ → Event → Bool
 takes n (Issue id generation tag cmdsn) = tag.0 == n
 takes n e = false
 
+-- one that is live is so on this connection; a command is sent on it
+abbrev pub IsLiveOn : ℕ → Fate → Type 0
+IsLiveOn last (Live generation tag tries) = generation ≡ last
+IsLiveOn last f = Unit {0}
+
+abbrev pub IsIssuedOn : ℕ → Event → Type 0
+IsIssuedOn last (Issue id generation tag cmdsn) = generation ≡ last
+IsIssuedOn last e = Unit {0}
+
 -- one submission before an entry and behind it: what is done stays, only a command makes it live, and its tries are counted
 pub record Moves (e : Event) (a : ℕ) (t u : Task) : Type 0 where
   pub done : (outcome : Outcome) (at : ℕ) → t.fate ≡ Done outcome at → u.fate ≡ Done outcome at
   pub told : hands_out e ≡ false → u.told ≡ t.told
   pub over : (tag : ℕ) → takes tag e ≡ false → is_live_on tag t.fate ≡ false → is_live_on tag u.fate ≡ false
   pub tries : 1 ≤ a → HasTries a t.fate → HasTries a u.fate
+  pub last : (generation : ℕ) → IsIssuedOn generation e → IsLiveOn generation t.fate → IsLiveOn generation u.fate
 
 -- one that came in with the entry
 pub record IsNew (a : ℕ) (u : Task) : Type 0 where
   pub told : u.told ≡ false
   pub over : (tag : ℕ) → is_live_on tag u.fate ≡ false
   pub tries : 1 ≤ a → HasTries a u.fate
+  pub last : (generation : ℕ) → IsLiveOn generation u.fate
 
 abbrev pub AreNew : ℕ → List Task → Type 0
 AreNew a [] = Unit {0}
@@ -76,7 +87,7 @@ AreMoved e a (t ∷ ts) (u ∷ us) = Moves e a t u × AreMoved e a ts us
 -- lists
 
 stays : (e : Event) (a : ℕ) (t : Task) → Moves e a t t
-stays e a t = record { done = λ outcome at is. is; told = λ quiet. refl; over = λ tag other is. is; tries = λ one has. has }
+stays e a t = record { done = λ outcome at is. is; told = λ quiet. refl; over = λ tag other is. is; tries = λ one has. has; last = λ generation sent on. on }
 
 pub moved-stays : (e : Event) (a : ℕ) (ts : List Task) → AreMoved e a ts ts
 moved-stays e a [] = tt
@@ -183,6 +194,7 @@ fails e a at code t off = record {
   told = λ quiet. refl;
   over = λ tag other is. refl;
   tries = λ one has. tt;
+  last = λ generation sent on. tt;
 }
 
 waits : (e : Event) (a tries : ℕ) (t : Task) → is_done t.fate ≡ false → (1 ≤ a → HasTries a t.fate → tries < a) → Moves e a t (waits_again tries t)
@@ -191,6 +203,7 @@ waits e a tries t off fewer = record {
   told = λ quiet. refl;
   over = λ tag other is. refl;
   tries = λ one has. fewer one has;
+  last = λ generation sent on. tt;
 }
 
 moves_by : (e : Event) (a at : ℕ) (t : Task) (n : Next) → is_done t.fate ≡ false → MayWait a t.fate n → Moves e a t (moved_by at t n)
@@ -217,6 +230,7 @@ answers e a at r t Answer off may = record {
   told = λ quiet. refl;
   over = λ tag other is. refl;
   tries = λ one has. tt;
+  last = λ generation sent on. tt;
 }
 answers e a at r t (Host code) off may = fails e a at code t off
 
@@ -236,7 +250,7 @@ moves_answered e a at tag aim r t live = answers e a at r t _ (live_not_done tag
 
 -- a piece of data leaves where it stands
 from_piece : (e : Event) (a : ℕ) (payload : List ℕ) (t u : Task) → Moves e a (with_piece payload t) u → Moves e a t u
-from_piece e a payload t u m = record { done = m.done; told = m.told; over = m.over; tries = m.tries }
+from_piece e a payload t u m = record { done = m.done; told = m.told; over = m.over; tries = m.tries; last = m.last }
 
 moves_data : (e : Event) (a at : ℕ) (aim : Aim) (h : DataInHeader) (payload : List ℕ) (t : Task) → Moves e a t (got_data a at aim h payload t)
 moves_data e a at aim h payload t =
@@ -268,8 +282,8 @@ moved_heard e a at handler busy (TaskResponse h) payload ts =
 moved_heard e a at handler busy head payload ts = moved-stays e a ts
 
 new_task : (a at : ℕ) (b : Bool) (c : Command) → IsNew a (if b then failed at FailsFast (fresh_task c) else fresh_task c)
-new_task a at true c = record { told = refl; over = λ tag. refl; tries = λ one. tt }
-new_task a at false c = record { told = refl; over = λ tag. refl; tries = λ one. omega (arith, one) }
+new_task a at true c = record { told = refl; over = λ tag. refl; tries = λ one. tt; last = λ generation. tt }
+new_task a at false c = record { told = refl; over = λ tag. refl; tries = λ one. omega (arith, one); last = λ generation. tt }
 
 -- the submission whose command goes out waits
 
@@ -302,10 +316,11 @@ moves_issued a id generation tag cmdsn t is = record {
   told = λ quiet. refl;
   over = λ n other off. other;
   tries = λ one has. one_try_more a t.fate is has;
+  last = λ g sent on. sent;
 }
 
 moves_told : (count a : ℕ) (t : Task) → Moves (Deliver count) a t (told_task t)
-moves_told count a t = record { done = λ outcome at is. is; told = λ quiet. absurd cc; over = λ tag other is. is; tries = λ one has. has }
+moves_told count a t = record { done = λ outcome at is. is; told = λ quiet. absurd cc; over = λ tag other is. is; tries = λ one has. has; last = λ generation sent on. on }
 
 pub moved_after : (C : SessionConfig) (at : ℕ) (m : Meanings) (accepted : Bool) (e : Event) → IsNextCommand C m e
     → AreMoved e C.tries m.tasks (tasks_step C at accepted m.phase m.handler m.busy e m.tasks)

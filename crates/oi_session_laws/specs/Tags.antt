@@ -1,16 +1,21 @@
 -- Tags in use differ (RFC 7143, section 11.2.1.8).
-use Rattle.std.specs.Prelude.{◌≡◌, ◌≤◌, ◌+◌, ◌==◌, ◌++◌, ℕ, List, [], ◌∷◌, length, if◌then◌else◌, suc, zero}
+use Rattle.std.specs.Prelude.{◌≡◌, ◌≤◌, ◌+◌, ◌==◌, ◌++◌, ℕ, true, List, [], ◌∷◌, Some, length, if◌then◌else◌, suc, zero}
 use Rattle.oi_base.specs.Counts.{bit}
 use Rattle.oi_base.specs.Limits.{most_management_tags}
 use Rattle.oi_base.specs.TagLayout.{age_after, management_tag, reserved_tag}
 use Rattle.oi_base.specs.declared.tag.Tag.{Tag}
+use Rattle.oi_history.specs.Configs.{IsValidConfig}
 use Rattle.oi_history.specs.Meanings.{meanings}
 use Rattle.oi_history.specs.Permitted.{ArePermitted}
+use Rattle.oi_history.specs.Phases.{is_logged_in}
+use Rattle.oi_history.specs.Tags.{holder}
 use Rattle.oi_history.specs.declared.allocated.Allocated.{Allocated}
 use Rattle.oi_history.specs.declared.config.SessionConfig.{SessionConfig}
 use Rattle.oi_history.specs.declared.event.Event.{Event}
 use Rattle.oi_history.specs.declared.event.Event.TheVariants.{Login, Manage, Nop, Logout}
 use Rattle.oi_history.specs.declared.event.Numbered.{Numbered}
+use Rattle.oi_history.specs.declared.fate.Fate.TheVariants.{Live}
+use Rattle.oi_laws.specs.Stays.{fate_at}
 use Rattle.oi_laws.specs.Tags.{allocations, copies}
 
 -- how many tags a submission has in use
@@ -26,6 +31,12 @@ TagsDiffer =
 -- no submission has two of them, though an ended one may not be released yet
 abbrev pub IdsDiffer : Type 0
 IdsDiffer = (C : SessionConfig) (H : List Numbered) → ArePermitted C H → (id : ℕ) → holdings id (meanings C H).busy ≤ 1
+
+-- a submission that is live is so on the connection of the present login, and has its tag
+abbrev pub LiveHolds : Type 0
+LiveHolds =
+    (C : SessionConfig) (H : List Numbered) → ArePermitted C H → (id generation : ℕ) (tag : Tag) (tries : ℕ) → fate_at id (meanings C H).tasks ≡ Some (Live generation tag tries)
+    → (is_logged_in (meanings C H).phase generation ≡ true) × (holder tag.0 (meanings C H).busy ≡ Some id)
 
 -- the tags of the requests that are no commands, since the last login, in order; an answer to a NOP-In has none
 abbrev pub given_after : Event → List Tag → List Tag
@@ -53,3 +64,9 @@ GivenInOrder =
 -- so none is given twice
 abbrev pub GivenDiffer : Type 0
 GivenDiffer = (C : SessionConfig) (H : List Numbered) → ArePermitted C H → (tag : ℕ) → copies tag (given_tags H) ≤ 1
+
+-- nor is it a tag of a command
+abbrev pub AllDiffer : Type 0
+AllDiffer =
+    (C : SessionConfig) (H : List Numbered) → ArePermitted C H → IsValidConfig C
+    → (tag : ℕ) → allocations tag (meanings C H).busy + copies tag (meanings C H).free + copies tag (given_tags H) ≤ 1

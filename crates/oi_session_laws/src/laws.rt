@@ -4,7 +4,7 @@ ghost use Rattle.oi_session_laws.specs.Ends.{NoneLeft, OverByEnd, TriesLeft};
 ghost use Rattle.oi_session_laws.specs.Generations.{OthersDecideNothing};
 ghost use Rattle.oi_session_laws.specs.Numbers.{InsideWindow, NextFollows, Successive};
 ghost use Rattle.oi_session_laws.specs.Stays.{DoneIsFinal};
-ghost use Rattle.oi_session_laws.specs.Tags.{GivenDiffer, GivenInOrder, IdsDiffer, TagsDiffer};
+ghost use Rattle.oi_session_laws.specs.Tags.{AllDiffer, GivenDiffer, GivenInOrder, IdsDiffer, LiveHolds, TagsDiffer};
 
 /// In a permitted history a submission that is done keeps its outcome, and the entry that decided it, whatever follows.
 pub fn done_is_final()
@@ -101,4 +101,15 @@ pub fn command_numbers_successive_on_each()
 /// earlier one, have different tags.
 pub fn management_tags_differ_on_each()
     ensures { GivenDifferOnEach }
+{}
+
+/// In a permitted history a submission that is live is so on the connection of the present login, and has its tag allocated.
+pub fn live_submissions_hold_their_tags()
+    ensures { LiveHolds }
+{}
+
+/// In a permitted history of valid settings no tag of a command is a management tag that was given on the connection, and
+/// all of them differ.
+pub fn all_tags_differ()
+    ensures { AllDiffer }
 {}
