@@ -73,9 +73,9 @@ either_side a b P under over = step (nat_lt a b) refl
     step true is = under (grind (arith, nat_tests, is))
     step false is = over (grind (arith, nat_tests, is))
 
-pub all_differ : (C : SessionConfig) (H : List Numbered) → ArePermitted C H → IsValidConfig C
+pub all_distinct : (C : SessionConfig) (H : List Numbered) → ArePermitted C H → IsValidConfig C
     → (tag : ℕ) → allocations tag (meanings C H).busy + copies tag (meanings C H).free + copies tag (given_tags H) ≤ 1
-all_differ C H legal valid tag =
+all_distinct C H legal valid tag =
     let given = are_given C H legal in
     let same : copies tag (given_tags H) ≡ copies tag (management_tags (age_after (meanings C H).generation) (meanings C H).managed) = ap (copies tag) given.are in
     either_side tag (management_tag (age_after (meanings C H).generation) 0) _

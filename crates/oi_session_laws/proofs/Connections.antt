@@ -14,7 +14,7 @@ use Rattle.oi_history.specs.declared.phase.Phase.TheVariants.{First, LoggedIn, R
 use Rattle.oi_laws.specs.Numbers.{first_after, first_number, sent_after, sent_numbers, successive}
 use Rattle.oi_laws.specs.Tags.{copies}
 use Rattle.oi_session_laws.proofs.Generations.{IsLast, last_login}
-use Rattle.oi_session_laws.proofs.Management.{given_differ, owed_one}
+use Rattle.oi_session_laws.proofs.Management.{given_distinct, owed_one}
 use Rattle.oi_session_laws.proofs.Numbers.{are_successive}
 use Rattle.oi_session_laws.proofs.TagCounts.{decide, equal_from, other_test, same_test}
 use Rattle.oi_session_laws.specs.Connections.{first_from, first_on, given_on, numbers_on}
@@ -113,7 +113,7 @@ pub record AreApart (C : SessionConfig) (H : List Numbered) : Type 0 where
   pub first : first_on (meanings C H).generation H ≡ first_number H
   pub tags : given_on (meanings C H).generation H ≡ given_tags H
   pub successive_on : (g : ℕ) → numbers_on g H ≡ successive (first_on g H) (length (numbers_on g H))
-  pub differ_on : (g tag : ℕ) → copies tag (given_on g H) ≤ 1
+  pub distinct_on : (g tag : ℕ) → copies tag (given_on g H) ≤ 1
 
 -- a connection's numbers, as those of another list
 numbers_as : (first number : ℕ) (xs ys : List ℕ) → xs ≡ ys → first ≡ number → ys ≡ successive number (length ys) → xs ≡ successive first (length xs)
@@ -127,7 +127,7 @@ are_apart C [] legal = record {
   first = refl;
   tags = refl;
   successive_on = λ g. refl;
-  differ_on = λ g tag. omega arith;
+  distinct_on = λ g tag. omega arith;
 }
 are_apart C (n ∷ H) legal =
     let before = are_apart C H legal.1 in
@@ -147,14 +147,14 @@ are_apart C (n ∷ H) legal =
           (λ same. subst (λ (x : ℕ). numbers_on x (n ∷ H) ≡ successive (first_on x (n ∷ H)) (length (numbers_on x (n ∷ H)))) same
           (numbers_as _ _ _ _ numbers_last first_last (are_successive C (n ∷ H) legal)))
           (λ differs. numbers_as _ _ _ (numbers_on g H) (other_on n.event m.generation g (numbers_on g H) _ on differs) (other_first n.event m.generation g (first_on g H) differs) (before.successive_on g));
-      differ_on = λ g tag. decide (generation_after n.event m.generation) g _
-          (λ same. subst (λ (x : ℕ). copies tag (given_on x (n ∷ H)) ≤ 1) same (subst (λ (z : List Tag). copies tag z ≤ 1) (sym tags_last) (given_differ C (n ∷ H) legal tag)))
-          (λ differs. subst (λ (z : List Tag). copies tag z ≤ 1) (sym (other_on n.event m.generation g (given_on g H) _ on differs)) (before.differ_on g tag));
+      distinct_on = λ g tag. decide (generation_after n.event m.generation) g _
+          (λ same. subst (λ (x : ℕ). copies tag (given_on x (n ∷ H)) ≤ 1) same (subst (λ (z : List Tag). copies tag z ≤ 1) (sym tags_last) (given_distinct C (n ∷ H) legal tag)))
+          (λ differs. subst (λ (z : List Tag). copies tag z ≤ 1) (sym (other_on n.event m.generation g (given_on g H) _ on differs)) (before.distinct_on g tag));
     }
 
 pub successive_on_each : (C : SessionConfig) (H : List Numbered) → ArePermitted C H → (generation : ℕ)
     → numbers_on generation H ≡ successive (first_on generation H) (length (numbers_on generation H))
 successive_on_each C H legal generation = (are_apart C H legal).successive_on generation
 
-pub differ_on_each : (C : SessionConfig) (H : List Numbered) → ArePermitted C H → (generation tag : ℕ) → copies tag (given_on generation H) ≤ 1
-differ_on_each C H legal generation tag = (are_apart C H legal).differ_on generation tag
+pub distinct_on_each : (C : SessionConfig) (H : List Numbered) → ArePermitted C H → (generation tag : ℕ) → copies tag (given_on generation H) ≤ 1
+distinct_on_each C H legal generation tag = (are_apart C H legal).distinct_on generation tag

@@ -85,9 +85,9 @@ done_fate id [] f p is = absurd cc
 done_fate zero (t ∷ ts) f p is = let same : t.fate ≡ f = cc in subst (λ (x : Fate). is_done x ≡ true) same p.0
 done_fate (suc id) (t ∷ ts) f p is = done_fate id ts f p.1 is
 
-pub none_left : (C : SessionConfig) (H : List Numbered) → ArePermitted C H → is_ended (meanings C H).phase ≡ true
+pub all_done_after_end : (C : SessionConfig) (H : List Numbered) → ArePermitted C H → is_ended (meanings C H).phase ≡ true
     → (id : ℕ) (fate : Fate) → fate_at id (meanings C H).tasks ≡ Some fate → is_done fate ≡ true
-none_left C H legal is id fate there = done_fate id (meanings C H).tasks fate (ended_done C H legal is) there
+all_done_after_end C H legal is id fate there = done_fate id (meanings C H).tasks fate (ended_done C H legal is) there
 
 -- a session is over by the entry that ends it
 

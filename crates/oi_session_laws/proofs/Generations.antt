@@ -83,8 +83,8 @@ told_once false x y = refl
 silent : (C : SessionConfig) (at generation : ℕ) (pdu : Pdu) (m : Meanings) → is_logged_in m.phase generation ≡ false → step C (PduIn generation pdu) at m ≡ retold pdu.head m
 silent C at generation pdu m off = rw (off, no_tags_over m.tasks, append-nil m.ended, told_once (is_task_response pdu.head)) refl
 
-pub others_decide_nothing : (C : SessionConfig) (H : List Numbered) (number generation : ℕ) (pdu : Pdu) → (generation ≡ (meanings C H).generation → ⊥)
+pub stale_changes_nothing : (C : SessionConfig) (H : List Numbered) (number generation : ℕ) (pdu : Pdu) → (generation ≡ (meanings C H).generation → ⊥)
     → (meanings C (record { number = number; event = PduIn generation pdu } ∷ H) ≡ retold pdu.head (meanings C H))
     × (handed_so_far C (record { number = number; event = PduIn generation pdu } ∷ H) ≡ handed_so_far C H)
-others_decide_nothing C H number generation pdu differs =
+stale_changes_nothing C H number generation pdu differs =
     (silent C number generation pdu (meanings C H) (not_on generation (meanings C H).generation (meanings C H).phase differs (last_login C H)), append-nil (handed_so_far C H))

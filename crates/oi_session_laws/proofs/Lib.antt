@@ -12,3 +12,4 @@ pub mod Management
 pub mod Connections
 pub mod Holding
 pub mod Apart
+pub mod Example

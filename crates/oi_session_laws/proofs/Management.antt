@@ -172,7 +172,7 @@ once age (suc n) tag =
     (λ same. let none = above age n tag (omega (arith, same)) in let one = same_bit (management_tag age n) tag same in omega (arith, split, none, one))
     (λ differs. let mine = other_bit (management_tag age n) tag differs in omega (arith, split, mine, rest))
 
-pub given_differ : (C : SessionConfig) (H : List Numbered) → ArePermitted C H → (tag : ℕ) → copies tag (given_tags H) ≤ 1
-given_differ C H legal tag =
+pub given_distinct : (C : SessionConfig) (H : List Numbered) → ArePermitted C H → (tag : ℕ) → copies tag (given_tags H) ≤ 1
+given_distinct C H legal tag =
     let p = are_given C H legal in
     subst (λ (tags : List Tag). copies tag tags ≤ 1) (sym p.are) (once (age_after (meanings C H).generation) (meanings C H).managed tag)

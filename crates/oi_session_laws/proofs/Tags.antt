@@ -420,8 +420,8 @@ are_tags C [] legal = record {
 are_tags C (n ∷ H) legal =
     tags_after C n.number (meanings C H) (accepted_in n.event (meanings C H)) n.event legal.0.command legal.0.tagged legal.0.released legal.0.login (are_tags C H legal.1)
 
-pub tags_differ : (C : SessionConfig) (H : List Numbered) → ArePermitted C H → (tag : ℕ) → allocations tag (meanings C H).busy + copies tag (meanings C H).free ≤ 1
-tags_differ C H legal tag = (are_tags C H legal).apart tag
+pub tags_distinct : (C : SessionConfig) (H : List Numbered) → ArePermitted C H → (tag : ℕ) → allocations tag (meanings C H).busy + copies tag (meanings C H).free ≤ 1
+tags_distinct C H legal tag = (are_tags C H legal).apart tag
 
-pub ids_differ : (C : SessionConfig) (H : List Numbered) → ArePermitted C H → (id : ℕ) → holdings id (meanings C H).busy ≤ 1
-ids_differ C H legal id = (are_tags C H legal).once id
+pub ids_distinct : (C : SessionConfig) (H : List Numbered) → ArePermitted C H → (id : ℕ) → holdings id (meanings C H).busy ≤ 1
+ids_distinct C H legal id = (are_tags C H legal).once id

@@ -34,5 +34,5 @@ tries_at a id [] f have is = absurd cc
 tries_at a zero (t ∷ ts) f have is = let same : t.fate ≡ f = cc in subst (λ (x : Fate). HasTries a x) same have.0
 tries_at a (suc id) (t ∷ ts) f have is = tries_at a id ts f have.1 is
 
-pub tries_left : (C : SessionConfig) (H : List Numbered) → ArePermitted C H → 1 ≤ C.tries → (id : ℕ) (fate : Fate) → fate_at id (meanings C H).tasks ≡ Some fate → HasTries C.tries fate
-tries_left C H legal one id fate is = tries_at C.tries id (meanings C H).tasks fate (have_tries C H legal one) is
+pub tries_below_limit : (C : SessionConfig) (H : List Numbered) → ArePermitted C H → 1 ≤ C.tries → (id : ℕ) (fate : Fate) → fate_at id (meanings C H).tasks ≡ Some fate → HasTries C.tries fate
+tries_below_limit C H legal one id fate is = tries_at C.tries id (meanings C H).tasks fate (have_tries C H legal one) is

@@ -37,5 +37,5 @@ SuccessiveOnEach =
     → numbers_on generation H ≡ successive (first_on generation H) (length (numbers_on generation H))
 
 -- its other requests have different tags
-abbrev pub GivenDifferOnEach : Type 0
-GivenDifferOnEach = (C : SessionConfig) (H : List Numbered) → ArePermitted C H → (generation tag : ℕ) → copies tag (given_on generation H) ≤ 1
+abbrev pub GivenDistinctOnEach : Type 0
+GivenDistinctOnEach = (C : SessionConfig) (H : List Numbered) → ArePermitted C H → (generation tag : ℕ) → copies tag (given_on generation H) ≤ 1

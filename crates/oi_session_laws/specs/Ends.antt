@@ -32,13 +32,13 @@ abbrev pub OverByEnd : Type 0
 OverByEnd = (C : SessionConfig) (H : List Numbered) → ArePermitted C H → is_ended (meanings C H).phase ≡ has_end H
 
 -- once a session ended, no submission waits or is live
-abbrev pub NoneLeft : Type 0
-NoneLeft =
+abbrev pub AllDoneAfterEnd : Type 0
+AllDoneAfterEnd =
     (C : SessionConfig) (H : List Numbered) → ArePermitted C H → is_ended (meanings C H).phase ≡ true
     → (id : ℕ) (fate : Fate) → fate_at id (meanings C H).tasks ≡ Some fate → is_done fate ≡ true
 
 -- a submission that waits has used fewer tries than are allowed, and one that is live no more
-abbrev pub TriesLeft : Type 0
-TriesLeft =
+abbrev pub TriesBelowLimit : Type 0
+TriesBelowLimit =
     (C : SessionConfig) (H : List Numbered) → ArePermitted C H → 1 ≤ C.tries
     → (id : ℕ) (fate : Fate) → fate_at id (meanings C H).tasks ≡ Some fate → HasTries C.tries fate

@@ -13,8 +13,8 @@ abbrev pub retold : Header → Meanings → Meanings
 retold head m = record m { told = if is_task_response head then record { stat = m.stat; pending = unfinished m.tasks } else m.told }
 
 -- it changes nothing and hands out nothing; a task management response is an entry under both locks
-abbrev pub OthersDecideNothing : Type 0
-OthersDecideNothing =
+abbrev pub StaleChangesNothing : Type 0
+StaleChangesNothing =
     (C : SessionConfig) (H : List Numbered) (number generation : ℕ) (pdu : Pdu) → (generation ≡ (meanings C H).generation → ⊥)
     → (meanings C (record { number = number; event = PduIn generation pdu } ∷ H) ≡ retold pdu.head (meanings C H))
     × (handed_so_far C (record { number = number; event = PduIn generation pdu } ∷ H) ≡ handed_so_far C H)

@@ -1,6 +1,7 @@
 pub mod Answers
 pub mod Connections
 pub mod Ends
+pub mod Example
 pub mod Generations
 pub mod Numbers
 pub mod Stays

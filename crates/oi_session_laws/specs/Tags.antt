@@ -24,13 +24,13 @@ holdings id [] = 0
 holdings id (a ∷ busy) = bit (a.id == id) + holdings id busy
 
 -- no tag is allocated twice, none is free twice, and none is both
-abbrev pub TagsDiffer : Type 0
-TagsDiffer =
+abbrev pub TagsDistinct : Type 0
+TagsDistinct =
     (C : SessionConfig) (H : List Numbered) → ArePermitted C H → (tag : ℕ) → allocations tag (meanings C H).busy + copies tag (meanings C H).free ≤ 1
 
 -- no submission has two of them, though an ended one may not be released yet
-abbrev pub IdsDiffer : Type 0
-IdsDiffer = (C : SessionConfig) (H : List Numbered) → ArePermitted C H → (id : ℕ) → holdings id (meanings C H).busy ≤ 1
+abbrev pub IdsDistinct : Type 0
+IdsDistinct = (C : SessionConfig) (H : List Numbered) → ArePermitted C H → (id : ℕ) → holdings id (meanings C H).busy ≤ 1
 
 -- a submission that is live is so on the connection of the present login, and has its tag
 abbrev pub LiveHolds : Type 0
@@ -62,11 +62,11 @@ GivenInOrder =
     → (given_tags H ≡ management_tags (age_after (meanings C H).generation) (length (given_tags H))) × (length (given_tags H) ≤ most_management_tags)
 
 -- so none is given twice
-abbrev pub GivenDiffer : Type 0
-GivenDiffer = (C : SessionConfig) (H : List Numbered) → ArePermitted C H → (tag : ℕ) → copies tag (given_tags H) ≤ 1
+abbrev pub GivenDistinct : Type 0
+GivenDistinct = (C : SessionConfig) (H : List Numbered) → ArePermitted C H → (tag : ℕ) → copies tag (given_tags H) ≤ 1
 
 -- nor is it a tag of a command
-abbrev pub AllDiffer : Type 0
-AllDiffer =
+abbrev pub AllDistinct : Type 0
+AllDistinct =
     (C : SessionConfig) (H : List Numbered) → ArePermitted C H → IsValidConfig C
     → (tag : ℕ) → allocations tag (meanings C H).busy + copies tag (meanings C H).free + copies tag (given_tags H) ≤ 1

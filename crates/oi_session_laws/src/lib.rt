@@ -5,10 +5,11 @@
 mod laws;
 
 pub use laws::{
-    all_tags_differ, allocated_ids_differ, allocated_tags_differ, answered_at_most_once,
-    answered_exactly_once, answered_once_behind_end, command_number_moves_by_commands,
-    command_numbers_inside_window, command_numbers_successive, command_numbers_successive_on_each,
-    done_is_final, ids_are_in_order, live_submissions_hold_their_tags,
-    management_tags_are_in_order, management_tags_differ, management_tags_differ_on_each,
-    none_is_left, other_connections_decide_nothing, sessions_end_by_their_entry, tries_are_left,
+    all_done_after_end, all_tags_distinct, allocated_ids_distinct, allocated_tags_distinct,
+    an_example_is_permitted, command_number_moves_by_commands, command_numbers_inside_window,
+    command_numbers_successive, command_numbers_successive_on_each, delivered_at_most_once,
+    delivered_exactly_once, delivered_once_behind_end, done_is_final, ids_are_in_order,
+    live_submissions_hold_their_tags, management_tags_distinct, management_tags_distinct_on_each,
+    management_tags_in_order, sessions_end_by_their_entry, stale_pdu_changes_nothing,
+    tries_below_limit,
 };
