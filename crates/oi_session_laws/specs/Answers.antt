@@ -20,11 +20,12 @@ abbrev pub was_submitted : ℕ → List Numbered → Bool
 was_submitted id [] = false
 was_submitted id (n ∷ H) = is_submit id n.event || was_submitted id H
 
--- the session was ended, and outcomes were handed out behind its end
+-- outcomes were handed out
 abbrev pub is_handing : Event → Bool
 is_handing (Deliver count) = true
 is_handing e = false
 
+-- an entry does so that is newer than the end of the session
 abbrev pub hands_behind_end : List Numbered → Bool
 hands_behind_end [] = false
 hands_behind_end (n ∷ H) = (is_handing n.event && has_end H) || hands_behind_end H
