@@ -1,0 +1,15 @@
+pub mod Moved
+pub mod Stays
+pub mod Tries
+pub mod Ends
+pub mod Generations
+pub mod Numbers
+pub mod Counted
+pub mod Handed
+pub mod TagCounts
+pub mod Tags
+pub mod Management
+pub mod Connections
+pub mod Holding
+pub mod Apart
+pub mod Example

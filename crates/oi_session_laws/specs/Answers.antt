@@ -1,0 +1,51 @@
+-- How often a submission is handed out.
+use Rattle.std.specs.Prelude.{◌≡◌, ◌≤◌, ◌==◌, ◌&&◌, ◌||◌, ℕ, Bool, true, false, List, [], ◌∷◌, length, nat_lt}
+use Rattle.oi_history.specs.Meanings.{handed_so_far, meanings}
+use Rattle.oi_history.specs.Permitted.{ArePermitted}
+use Rattle.oi_history.specs.Phases.{is_ended}
+use Rattle.oi_history.specs.Tasks.{due_in}
+use Rattle.oi_history.specs.declared.config.SessionConfig.{SessionConfig}
+use Rattle.oi_history.specs.declared.event.Event.{Event}
+use Rattle.oi_history.specs.declared.event.Event.TheVariants.{Submit, Deliver}
+use Rattle.oi_history.specs.declared.event.Numbered.{Numbered}
+use Rattle.oi_laws.specs.Answers.{times}
+use Rattle.oi_session_laws.specs.Ends.{has_end}
+
+-- a request came in under this id
+abbrev pub is_submit : ℕ → Event → Bool
+is_submit id (Submit k request) = k == id
+is_submit id e = false
+
+abbrev pub was_submitted : ℕ → List Numbered → Bool
+was_submitted id [] = false
+was_submitted id (n ∷ H) = is_submit id n.event || was_submitted id H
+
+-- outcomes were handed out
+abbrev pub is_handing : Event → Bool
+is_handing (Deliver count) = true
+is_handing e = false
+
+-- an entry does so that is newer than the end of the session
+abbrev pub hands_behind_end : List Numbered → Bool
+hands_behind_end [] = false
+hands_behind_end (n ∷ H) = (is_handing n.event && has_end H) || hands_behind_end H
+
+-- ids are given in order, from 0
+abbrev pub IdsInOrder : Type 0
+IdsInOrder = (C : SessionConfig) (H : List Numbered) → ArePermitted C H → (id : ℕ) → was_submitted id H ≡ nat_lt id (length (meanings C H).tasks)
+
+-- each submission is handed out at most once
+abbrev pub AtMostOnce : Type 0
+AtMostOnce = (C : SessionConfig) (H : List Numbered) → ArePermitted C H → (id : ℕ) → times id (handed_so_far C H) ≤ 1
+
+-- exactly once where the session ended and nothing is due
+abbrev pub ExactlyOnce : Type 0
+ExactlyOnce =
+    (C : SessionConfig) (H : List Numbered) → ArePermitted C H → is_ended (meanings C H).phase ≡ true → due_in (meanings C H).tasks ≡ []
+    → (id : ℕ) → was_submitted id H ≡ true → times id (handed_so_far C H) ≡ 1
+
+-- and where outcomes were handed out behind its end
+abbrev pub OnceBehindEnd : Type 0
+OnceBehindEnd =
+    (C : SessionConfig) (H : List Numbered) → ArePermitted C H → hands_behind_end H ≡ true → (id : ℕ) → was_submitted id H ≡ true
+    → times id (handed_so_far C H) ≡ 1
