@@ -1,0 +1,7 @@
+pub mod Marks
+pub mod Orders
+pub mod Outcomes
+pub mod Searches
+pub mod Settings
+pub mod Steps
+pub mod Swaps
