@@ -1,11 +1,12 @@
 -- Which records a store holds.
-use Rattle.std.specs.Prelude.{◌≡◌, ◌⊎◌, ℕ, List, ◌++◌, Option, Some, Result, Ok, Err, codes}
+use Rattle.std.specs.Prelude.{◌≡◌, ◌⊎◌, ℕ, List, ◌++◌, Option, Some, None, Result, Ok, Err, codes}
 use Rattle.std.specs.Cmp.Lexicographic.{slice_cmp}
 use Rattle.std.specs.List.{All, Contains}
 use Rattle.std.specs.Ordering.{nat_cmp}
 use Rattle.std.specs.declared.cmp.Ordering.TheVariants.{Less}
 use Rattle.oi_base.specs.Counts.{told}
 use Rattle.oi_outside.specs.Records.{Records, lookup}
+use Rattle.oi_outside.specs.Stores.{IsToldAt}
 use Rattle.oi_settings.specs.Keys.{path_text}
 use Rattle.oi_settings.specs.Texts.{BadLine, IsStored, Node}
 use Rattle.oi_nodedb.specs.declared.error.DbError.{DbError}
@@ -39,6 +40,23 @@ pub record IsFirstBad (records : Records) (path : List ℕ) (line : ℕ) : Type 
   pub bad : IsBadAt path text line
   pub first : (other stored : List ℕ) → IsNodePath other → slice_cmp nat_cmp other path ≡ Less → lookup records other ≡ Some stored
       → (n : Node) × IsRecordAt other stored n
+
+-- bytes at a path were read: the record that they store, or where they are bad
+abbrev pub IsReadAs : List ℕ → List ℕ → Result Node DbError → Type 0
+IsReadAs path text (Ok node) = IsRecordAt path text node
+IsReadAs path text (Err (BadRecord named line)) = (named ≡ path) × IsBadAt path text line
+IsReadAs path text (Err Memory) = Unit {0}
+IsReadAs path text (Err other) = ⊥
+
+-- a path was read: none where it is no path of node records or has no text; no read changes the store
+abbrev pub ReadsAt : List ℕ → Result (Option Node) DbError → Option Records → Option Records → Type 0
+ReadsAt path (Ok None) was is = (is ≡ was) × (IsNodePath path → IsToldAt was path None)
+ReadsAt path (Ok (Some node)) was is = (is ≡ was) × IsNodePath path × ((text : List ℕ) × IsRecordAt path text node × IsToldAt was path (Some text))
+ReadsAt path (Err (BadRecord named line)) was is =
+    (is ≡ was) × (named ≡ path) × IsNodePath path × ((text : List ℕ) × IsBadAt path text line × IsToldAt was path (Some text))
+ReadsAt path (Err StoreFault) was is = is ≡ was
+ReadsAt path (Err Memory) was is = is ≡ was
+ReadsAt path (Err other) was is = ⊥
 
 -- a load gives the records of the store in the order of their keys; no load changes the store
 abbrev pub Loads : Result (List Node) DbError → Option Records → Option Records → Type 0

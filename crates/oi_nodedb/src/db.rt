@@ -6,12 +6,14 @@ ghost use Rattle.oi_settings.specs.Texts.{IsLine};
 ghost use Rattle.oi_nodedb.specs.Answers.{Adds, Checks, Deletes, IsCounted, Updates, finished};
 ghost use Rattle.oi_nodedb.specs.Databases.{Ascends, fresh, keys_of, record_at, with_record};
 ghost use Rattle.oi_nodedb.specs.Filters.{matching};
+ghost use Rattle.oi_nodedb.specs.Loads.{Loads};
 
 ghost use Rattle.oi_nodedb.specs.declared.error.DbError.TheVariants.{BadName, BadValue, Memory};
 
 use crate::edits::{change_all, count, remove_all};
 use crate::error::DbError;
 use crate::filter::Filter;
+use crate::load::read_record;
 use crate::place::place_of;
 use crate::sessions::in_use;
 use crate::stored::put_text;
@@ -51,6 +53,49 @@ impl NodeDb {
         NodeDb {
             alloc,
             records: Vec::new(alloc),
+        }
+    }
+
+    /// Reads every record of the store: the texts under the paths that begin with `nodes/`. A path that was listed and is
+    /// then not there is passed over.
+    ///
+    /// # Errors
+    ///
+    /// `BadRecord` for the first path, in the order of bytes, whose text is bad or is that of another path's record.
+    pub fn load<R: RecordStore>(alloc: Global, store: &mut R) -> Result<NodeDb, DbError>
+        ensures loads { Loads result (R.records store.old) (R.records store.new) }
+        ensures count { IsCounted result (R.faults store.old) (R.faults store.new) }
+    {
+        let paths = match store.list() {
+            Ok(paths) => paths,
+            Err(fault) => return Err(DbError::from(fault)),
+        };
+        let found = paths.as_slice();
+        let mut db = NodeDb::new(alloc);
+        for path in found {
+            let record = match read_record(alloc, store, path) {
+                Ok(Some(record)) => record,
+                Ok(None) => continue,
+                Err(fault) => return Err(fault),
+            };
+            let Ok(()) = db.take_in(record) else {
+                return Err(DbError::Memory);
+            };
+        }
+        Ok(db)
+    }
+
+    // Puts the record of a new key in its place.
+    fn take_in(&mut self, node: NodeRecord) -> Result<(), NoMemory>
+        requires { record_at node.key self.old ≡ None }
+        ensures { OnOk result (self.new ≡ with_record node self.old) }
+    {
+        match place_of(&self.records, node.key()) {
+            Ok(_) => unreachable!(),
+            Err(at) => {
+                self.records.insert(at, node)?;
+                Ok(())
+            }
         }
     }
 

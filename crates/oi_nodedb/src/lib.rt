@@ -5,6 +5,7 @@ mod db;
 mod edits;
 mod error;
 mod filter;
+mod load;
 mod place;
 mod sessions;
 mod stored;

@@ -45,8 +45,8 @@ pub fn remove_text<R: RecordStore>(
     store.remove(as_text(&path))
 }
 
-// A path, as the store takes it.
-fn as_text(path: &Label) -> &str
+/// A path, as the store takes it.
+pub fn as_text(path: &Label) -> &str
     requires { IsUtf8 path.now }
     ensures { result.now ≡ path.now }
 {
