@@ -62,12 +62,12 @@ one_only x y (k, small, is) = go k small is
 -- what is below a path is in front of it
 pub in_front : (front : List (List ℕ)) (p : List ℕ) (rest : List (List ℕ)) (q : List ℕ) → AscendPaths (front ++ p ∷ rest) → Contains (front ++ p ∷ rest) q → path_cmp q p ≡ Less → Contains front q
 in_front front p rest q ascends there less = elim (Contains-append_cases front (p ∷ rest) q there) [
-    inl here ↦ here
+  | inl here ↦ here
   | inr behind ↦ absurd (elim (Contains-append_cases (p ∷ []) rest q behind) [
-      inl same ↦ not_itself p (subst (λ (x : List ℕ). path_cmp x p ≡ Less) (sym (one_only p q same)) less)
+    | inl same ↦ not_itself p (subst (λ (x : List ℕ). path_cmp x p ≡ Less) (sym (one_only p q same)) less)
     | inr later ↦ not_both p q (All-contains (λ x. path_cmp p x ≡ Less) rest q (All-after_first path_cmp p rest (back_ascends front (p ∷ rest) ascends)) later) less
-    ])
-  ]
+  ])
+]
 
 -- a record among others
 contains_rest : {X : Type 0} (x : X) (xs : List X) (y : X) → Contains xs y → Contains (x ∷ xs) y
@@ -93,9 +93,9 @@ with_record-others node (n ∷ ns) x c = go (is_lt (key_cmp n.key node.key)) (wi
   where
     go : (b : Bool) → (Contains ns x → Contains (with_record node ns) x) → Contains (cond b (n ∷ with_record node ns) (node ∷ n ∷ ns)) x
     go true more = elim (contains_cases n ns x c) [
-        inl same ↦ subst (λ (y : Node). Contains (n ∷ with_record node ns) y) same (contains_first n (with_record node ns))
+      | inl same ↦ subst (λ (y : Node). Contains (n ∷ with_record node ns) y) same (contains_first n (with_record node ns))
       | inr later ↦ contains_rest n (with_record node ns) x (more later)
-      ]
+    ]
     go false more = contains_rest node (n ∷ ns) x c
 
 pub All-with_record : (P : Node → Type 0) (node : Node) (nodes : List Node) → P node → All P nodes → All P (with_record node nodes)
@@ -129,9 +129,9 @@ passed_over passed p was nodes so_far none = record {
   named = All-weaker (λ n. Contains passed (path_text n.key)) (λ n. Contains (passed ++ p ∷ []) (path_text n.key)) (λ n c. Contains-append_left passed (p ∷ []) (path_text n.key) c) nodes so_far.named;
   stored = so_far.stored;
   all = λ path c front. elim (Contains-push_cases passed p path c) [
-      inl before ↦ so_far.all path before front
+    | inl before ↦ so_far.all path before front
     | inr same ↦ inl (subst (λ (x : List ℕ). IsNodePath x → IsToldAt was x None) same none front)
-    ];
+  ];
 }
 
 pub passed_one : (passed : List (List ℕ)) (p text : List ℕ) (node : Node) (was : Option Records) (nodes : List Node) → IsPassed passed was nodes → IsRecordAt p text node → IsToldAt was p (Some text)
@@ -145,13 +145,14 @@ passed_one passed p text node was nodes so_far is told new = record {
       All-with_record (λ n. (t : List ℕ) × IsStored t n × IsToldAt was (path_text n.key) (Some t)) node nodes
       (text, is.1, subst (λ (x : List ℕ). IsToldAt was x (Some text)) is.0 told) so_far.stored;
   all = λ path c front. elim (Contains-push_cases passed p path c) [
-      inl before ↦ go path (so_far.all path before front)
+    | inl before ↦ go path (so_far.all path before front)
     | inr same ↦ inr (subst (λ (x : List ℕ). Found x) same (text, node, with_record-itself node nodes, is, told))
-    ];
+  ];
 }
   where
     Found : List ℕ → Type 0
     Found path = (t : List ℕ) × (n : Node) × Contains (with_record node nodes) n × IsRecordAt path t n × IsToldAt was path (Some t)
+
     go : (path : List ℕ) → IsToldAt was path None ⊎ ((t : List ℕ) × (n : Node) × Contains nodes n × IsRecordAt path t n × IsToldAt was path (Some t)) → IsToldAt was path None ⊎ Found path
     go path (inl none) = inl none
     go path (inr found) = inr (found.0, found.1, with_record-others node nodes found.1 found.2, found.3, found.4)
@@ -183,8 +184,8 @@ loaded found was nodes records so_far told listed = record {
   all = λ path text front there.
       let in_list : Contains found path = subst (λ (ps : List (List ℕ)). Contains ps path) (sym listed) (Contains-paths records path (ap is_some there)) in
       elim (so_far.all path in_list front) [
-        inl none ↦ absurd (true≢false (ap is_some (sym there ∙ none records told)))
-      | inr one ↦ (one.1, one.2, subst (λ (t : List ℕ). IsRecordAt path t one.1) (same_Some one.0 text (sym (one.4 records told) ∙ there)) one.3)
+        | inl none ↦ absurd (true≢false (ap is_some (sym there ∙ none records told)))
+        | inr one ↦ (one.1, one.2, subst (λ (t : List ℕ). IsRecordAt path t one.1) (same_Some one.0 text (sym (one.4 records told) ∙ there)) one.3)
       ];
 }
 
@@ -199,8 +200,8 @@ first_bad front p rest was is nodes named line records ascends so_far (same, nam
   first = λ other stored other_front less there.
       let in_list : Contains (front ++ p ∷ rest) other = subst (λ (ps : List (List ℕ)). Contains ps other) (sym listed) (Contains-paths records other (ap is_some there)) in
       elim (so_far.all other (in_front front p rest other ascends in_list less) other_front) [
-        inl none ↦ absurd (true≢false (ap is_some (sym there ∙ none records told)))
-      | inr one ↦ (one.1, subst (λ (t : List ℕ). IsRecordAt other t one.1) (same_Some one.0 stored (sym (one.4 records told) ∙ there)) one.3)
+        | inl none ↦ absurd (true≢false (ap is_some (sym there ∙ none records told)))
+        | inr one ↦ (one.1, subst (λ (t : List ℕ). IsRecordAt other t one.1) (same_Some one.0 stored (sym (one.4 records told) ∙ there)) one.3)
       ];
 }
 
@@ -234,7 +235,7 @@ module _ (found : List (List ℕ)) (i : ℕ) (p : List ℕ) (small : i < length 
   stopped is (BadRecord named line) ascends listed so_far reads = (
     reads.0,
     λ records told.
-    first_bad (take i found) p (drop (i + 1) found) was is nodes named line records (subst (λ (ps : List (List ℕ)). AscendPaths ps) parted_at ascends) so_far reads told (sym parted_at ∙ listed records told),
+        first_bad (take i found) p (drop (i + 1) found) was is nodes named line records (subst (λ (ps : List (List ℕ)). AscendPaths ps) parted_at ascends) so_far reads told (sym parted_at ∙ listed records told),
   )
   stopped is StoreFault ascends listed so_far reads = reads
   stopped is Memory ascends listed so_far reads = reads

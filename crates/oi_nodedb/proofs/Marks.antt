@@ -12,6 +12,7 @@ absent name key (r ∷ rs) none = go (bytes_eq r.name name) refl none (absent na
   where
     rest : Option (List ℕ)
     rest = value_of name (map (λ q. (q.name, initial_by q.range q.initial key)) rs)
+
     go : (b : Bool) → bytes_eq r.name name ≡ b → cond b (Some r) (row_named name rs) ≡ None
         → (row_named name rs ≡ None → is_some (value_of name (map (λ q. (q.name, initial_by q.range q.initial key)) rs)) ≡ false)
         → is_some (cond (bytes_eq name r.name) (Some (initial_by r.range r.initial key)) (value_of name (map (λ q. (q.name, initial_by q.range q.initial key)) rs))) ≡ false
@@ -28,7 +29,7 @@ pub marked_pairs : (n : Node) (old : Node) (key : Key) (m v name value : List �
 marked_pairs n old key m v name value none same alike keyed fresh is = (
   ap (λ (x : Node). x.key) is ∙ keyed,
   ap (λ (x : Node). x.pairs) is ∙ ap (λ (ps : List Pair). put m v ps) fresh ∙ ap (λ (x : List ℕ). put x v (fresh_pairs key)) same
-  ∙ ap (λ (x : List ℕ). put name x (fresh_pairs key)) alike ∙ put-new name value (fresh_pairs key) (fresh_lacks name key none),
+      ∙ ap (λ (x : List ℕ). put name x (fresh_pairs key)) alike ∙ put-new name value (fresh_pairs key) (fresh_lacks name key none),
 )
 
 pub unknown_same : (m name : List ℕ) → m ≡ name → row_named name table ≡ None → row_named m table ≡ None

@@ -30,6 +30,7 @@ remove-insert nodes i node within =
   where
     long : length (take i nodes) ≡ i
     long = length-take-le i nodes within
+
     tail : drop (suc i) (take i nodes ++ node ∷ drop i nodes) ≡ drop i nodes
     tail =
         ap (drop (suc i)) (sym (append_assoc (take i nodes) (node ∷ []) (drop i nodes)))

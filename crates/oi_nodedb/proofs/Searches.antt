@@ -31,8 +31,8 @@ module _ (nodes : List Node) (key : Key) (ascends : Ascends nodes) where
       → ((k : ℕ) (d : Node) → i ≤ k → k < length nodes → key_cmp (get_or nodes k d).key key ≡ Greater) → record_at key nodes ≡ None
   not_there i below above =
       record_at-absent key nodes (λ k d small. elim (cases_lt k i) [
-        inl before ↦ ap is_eq (below k d (omega arith) before)
-      | inr behind ↦ ap is_eq (above k d behind small)
+        | inl before ↦ ap is_eq (below k d (omega arith) before)
+        | inr behind ↦ ap is_eq (above k d behind small)
       ])
 
   pub absent : (r : Result ℕ ℕ) → IsSearchInRange r (length nodes) → IsBinarySearchResult (λ n. key_cmp n.key key) nodes r

@@ -7,7 +7,6 @@ ghost use Rattle.oi_nodedb.specs.Answers.{Adds, Checks, Deletes, IsCounted, Upda
 ghost use Rattle.oi_nodedb.specs.Databases.{Ascends, fresh, keys_of, record_at, with_record};
 ghost use Rattle.oi_nodedb.specs.Filters.{matching};
 ghost use Rattle.oi_nodedb.specs.Loads.{Loads};
-
 ghost use Rattle.oi_nodedb.specs.declared.error.DbError.TheVariants.{BadName, BadValue, Memory};
 
 use crate::edits::{change_all, count, remove_all};

@@ -9,6 +9,8 @@ mod load;
 mod place;
 mod sessions;
 mod stored;
+#[cfg(test)]
+mod tests;
 
 pub use db::NodeDb;
 pub use error::DbError;

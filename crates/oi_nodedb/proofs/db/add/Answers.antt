@@ -8,12 +8,11 @@ use Rattle.oi_nodedb.proofs.db.add.Goals as goal
 pub returns-in-Ok-put_text-clause-adds : goal.returns-in-Ok-put_text-clause-adds
 returns-in-Ok-put_text-clause-adds g c =
     let within : c.args.at ≤ length c.args.records.now.items = omega arith in
-    let read = inserted_read c.args.records.now.items c.insert.new.self.items c.args.at c.args.node c.index.result.now within c.in-Ok.ensures.items c.index.ensures in
-    (
+    let read = inserted_read c.args.records.now.items c.insert.new.self.items c.args.at c.args.node c.index.result.now within c.in-Ok.ensures.items c.index.ensures in (
       c.requires.new,
       c.in-Ok.ensures.items ∙ c.requires.gap,
       Puts-record (Ok c.in-Ok-put_text.field-0) c.index.result.now c.args.node (g.R.RecordStore.records c.args.store.now) (g.R.RecordStore.records c.put_text.new.store) read
-      c.in-Ok-put_text.ensures.puts,
+          c.in-Ok-put_text.ensures.puts,
     )
 
 -- the record that had come in goes out again

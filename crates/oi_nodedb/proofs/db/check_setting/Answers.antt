@@ -11,7 +11,7 @@ pub returns-in-Ok-true : goal.returns-in-Ok-true
 returns-in-Ok-true c = (
   opened c.as_bytes.result.now c.args.name.now c.is_open.result true c.as_bytes.ensures.value c.is_open.ensures c.if-not-is_open.false,
   taken_by c.as_bytes-2.result.now c.args.name.now c.as_bytes-3.result.now c.args.value.now c.in-Ok-true.field-0 c.as_bytes-2.ensures.value c.as_bytes-3.ensures.value c.in-Ok-true.ensures
-  c.in-Ok-true.field-0-test,
+      c.in-Ok-true.field-0-test,
 )
 
 pub returns-in-Ok-false : goal.returns-in-Ok-false

@@ -60,11 +60,10 @@ pub returns-clause-loads : goal.returns-clause-loads
 returns-clause-loads g c =
     let all : length c.as_slice-found.result.now ≤ c.loop-path.path-index = omega arith in
     let passed =
-    all_passed c.as_slice-found.result.now c.loop-path.path-index (g.R.RecordStore.records c.args.store.now) c.loop-path.db all c.loop-path.invariant.passed in
-    (
+    all_passed c.as_slice-found.result.now c.loop-path.path-index (g.R.RecordStore.records c.args.store.now) c.loop-path.db all c.loop-path.invariant.passed in (
       c.loop-path.invariant.store,
       passed.ascends,
       λ records told.
-      loaded c.as_slice-found.result.now (g.R.RecordStore.records c.args.store.now) c.loop-path.db records passed told
-      (listed_paths c.as_slice-found.result.now c.in-Ok.paths (g.R.RecordStore.records c.args.store.now) c.as_slice-found.ensures c.in-Ok.ensures.lists.3 records told),
+          loaded c.as_slice-found.result.now (g.R.RecordStore.records c.args.store.now) c.loop-path.db records passed told
+          (listed_paths c.as_slice-found.result.now c.in-Ok.paths (g.R.RecordStore.records c.args.store.now) c.as_slice-found.ensures c.in-Ok.ensures.lists.3 records told),
     )
