@@ -1,3 +1,4 @@
+pub mod Agreements
 pub mod Loading
 pub mod Marks
 pub mod Orders

@@ -8,12 +8,12 @@ use Rattle.std.specs.List.{All, AllByRecursion, Contains}
 use Rattle.std.specs.List.Sorted.{IsStrictlySortedBy}
 use Rattle.std.specs.Ordering.{is_eq, is_lt, nat_cmp, ordering_reverse}
 use Rattle.std.specs.declared.cmp.Ordering.{Ordering}
-use Rattle.std.specs.declared.cmp.Ordering.TheVariants.{Less, Equal, Greater}
+use Rattle.std.specs.declared.cmp.Ordering.TheVariants.{Less}
 use Rattle.std.proofs.lemmas.Cmp.{tied_itself}
 use Rattle.std.proofs.lemmas.List.{append_assoc, drop_more, take-append-drop, take_all, take_more}
-use Rattle.std.proofs.lemmas.List.Elements.{All-append, All-contains, All-cons, All-head, All-nil, All-tail, All-weaker, Contains-append_cases, Contains-append_left, Contains-append_right, Contains-push, Contains-push_cases}
+use Rattle.std.proofs.lemmas.List.Elements.{All-contains, All-cons, All-head, All-nil, All-tail, All-weaker, Contains-append_cases, Contains-append_left, Contains-append_right, Contains-push, Contains-push_cases}
 use Rattle.std.proofs.lemmas.Map.Views.{All-after_first, All-before_last}
-use Rattle.oi_outside.specs.Records.{Records, has_path, lookup, paths}
+use Rattle.oi_outside.specs.Records.{Records, lookup, paths}
 use Rattle.oi_outside.specs.Stores.{IsToldAt}
 use Rattle.oi_outside.proofs.Records.{Contains-paths}
 use Rattle.oi_settings.specs.Keys.{Key, key_cmp, path_text}
@@ -22,7 +22,7 @@ use Rattle.oi_settings.proofs.Paths.{order_apart}
 use Rattle.oi_nodedb.specs.declared.error.DbError.{DbError}
 use Rattle.oi_nodedb.specs.declared.error.DbError.TheVariants.{BadName, BadValue, BadRecord, NoObjects, InUse, StoreFault, Memory}
 use Rattle.oi_nodedb.specs.Databases.{Ascends, record_at, with_record}
-use Rattle.oi_nodedb.specs.Loads.{IsBadAt, IsFirstBad, IsLoaded, IsNodePath, IsReadAs, IsRecordAt, Loads, ReadsAt}
+use Rattle.oi_nodedb.specs.Loads.{IsFirstBad, IsLoaded, IsNodePath, IsReadAs, IsRecordAt, Loads, ReadsAt}
 use Rattle.oi_nodedb.proofs.Orders.{Ascends-with_record, record_at-absent}
 
 abbrev path_cmp : List ℕ → List ℕ → Ordering
@@ -70,13 +70,13 @@ in_front front p rest q ascends there less = elim (Contains-append_cases front (
 ]
 
 -- a record among others
-contains_rest : {X : Type 0} (x : X) (xs : List X) (y : X) → Contains xs y → Contains (x ∷ xs) y
+pub contains_rest : {X : Type 0} (x : X) (xs : List X) (y : X) → Contains xs y → Contains (x ∷ xs) y
 contains_rest x xs y c = Contains-append_right (x ∷ []) xs y c
 
-contains_first : {X : Type 0} (x : X) (xs : List X) → Contains (x ∷ xs) x
+pub contains_first : {X : Type 0} (x : X) (xs : List X) → Contains (x ∷ xs) x
 contains_first x xs = Contains-append_left (x ∷ []) xs x (Contains-push [] x)
 
-contains_cases : {X : Type 0} (x : X) (xs : List X) (y : X) → Contains (x ∷ xs) y → (x ≡ y) ⊎ Contains xs y
+pub contains_cases : {X : Type 0} (x : X) (xs : List X) (y : X) → Contains (x ∷ xs) y → (x ≡ y) ⊎ Contains xs y
 contains_cases x xs y c = elim (Contains-append_cases (x ∷ []) xs y c) [ inl one ↦ inl (one_only x y one) | inr more ↦ inr more ]
 
 pub with_record-itself : (node : Node) (nodes : List Node) → Contains (with_record node nodes) node

@@ -1,10 +1,10 @@
 -- What each outcome of a call leaves.
-use Rattle.std.proofs.Common.{◌≡◌, ℕ, suc, ◌+◌, ◌≤◌, ◌<◌, ◌⊎◌, inl, inr, Bool, true, false, not, List, [], ◌∷◌, ◌++◌, Option, Some, None, Result, Ok, Err, refl, sym, ap, ◌∙◌, subst, take, drop, insert, length, get_or, arith, add-one}
+use Rattle.std.proofs.Common.{◌≡◌, ℕ, suc, ◌+◌, ◌≤◌, ◌<◌, inl, inr, Bool, true, false, not, List, [], ◌∷◌, ◌++◌, Option, None, Result, Ok, Err, refl, sym, ap, ◌∙◌, subst, take, drop, insert, length, get_or, arith, add-one}
 use Rattle.std.specs.List.{remove}
 use Rattle.std.specs.List.Sorted.{IsStrictlySortedBy}
 use Rattle.std.proofs.lemmas.List.{append-nil, append_assoc, drop_at, length-append, length-take-le, take-append-drop, take_at}
 use Rattle.std.proofs.lemmas.List.Edits.{get_or-insert_at}
-use Rattle.oi_base.specs.Counts.{Rose, told}
+use Rattle.oi_base.specs.Counts.{told}
 use Rattle.oi_names.specs.declared.session_key.SessionInfo.{SessionInfo}
 use Rattle.oi_outside.specs.Records.{Records}
 use Rattle.oi_outside.specs.Stores.{IsTallied, Puts}
@@ -16,7 +16,7 @@ use Rattle.oi_settings.specs.Texts.{Node, text_of}
 use Rattle.oi_nodedb.specs.declared.error.DbError.{DbError}
 use Rattle.oi_nodedb.specs.declared.error.DbError.TheVariants.{BadName, BadValue, BadRecord, NoObjects, InUse, StoreFault, Memory}
 use Rattle.oi_nodedb.specs.declared.filter.Filter.{Filter}
-use Rattle.oi_nodedb.specs.Answers.{Adds, Changes, Checks, Deletes, Drops, IsCounted, IsFree, IsSetting, StopsDelete, StopsUpdate, Updates, answer_of, finished}
+use Rattle.oi_nodedb.specs.Answers.{Adds, Changes, Checks, Deletes, Drops, IsCounted, IsFree, IsSetting, Updates, answer_of, finished}
 use Rattle.oi_nodedb.specs.Databases.{Ascends, keys_of, left, record_at, updated, with_record}
 use Rattle.oi_nodedb.specs.Filters.{matches, matching}
 use Rattle.oi_nodedb.proofs.Orders.{Ascends-kept, Ascends-with_record}
@@ -158,3 +158,7 @@ Deletes-same f living r s old before new was is same alike deletes =
 
 pub count_same : (r s : Result ℕ DbError) (before now : ℕ) → r ≡ s → IsCounted s before now → IsCounted r before now
 count_same r s before now same counted = subst (λ (x : Result ℕ DbError). IsCounted x before now) (sym same) counted
+
+pub Updates-named : (f : Filter) (m name v value : List ℕ) (r : Result ℕ DbError) (old new : List Node) (was is : Option Records) → m ≡ name → v ≡ value → Updates f m v r old new was is → Updates f name value r old new was is
+Updates-named f m name v value r old new was is same alike updates =
+    subst (λ (x : List ℕ). Updates f x value r old new was is) same (subst (λ (x : List ℕ). Updates f m x r old new was is) alike updates)

@@ -1,14 +1,11 @@
 -- Names and values that an update may have.
-use Rattle.std.proofs.Common.{◌≡◌, ◌⊎◌, inl, inr, ℕ, Bool, true, false, true≢false, List, Ok, Err, refl, sym, ap, ◌∙◌, subst}
+use Rattle.std.proofs.Common.{◌≡◌, ◌⊎◌, inl, inr, ℕ, Bool, true, false, true≢false, List, Err, refl, sym, ◌∙◌, subst}
 use Rattle.std.specs.Prelude.{IsTrue, ◌↔◌}
 use Rattle.oi_settings.specs.Schema.{Takes, is_open, table}
 use Rattle.oi_nodedb.specs.declared.error.DbError.{DbError}
 use Rattle.oi_nodedb.specs.declared.error.DbError.TheVariants.{BadName, BadValue, Memory}
 use Rattle.oi_nodedb.specs.Answers.{Checks}
-use Rattle.oi_nodedb.proofs.Swaps.{Takes-same, open_same}
-
-pub opened : (n name : List ℕ) (r b : Bool) → n ≡ name → r ≡ is_open n → r ≡ b → is_open name ≡ b
-opened n name r b same tested is = ap is_open (sym same) ∙ sym tested ∙ is
+use Rattle.oi_nodedb.proofs.Swaps.{Takes-same}
 
 pub closed : (name value : List ℕ) (d : DbError) → is_open name ≡ false → (d ≡ Memory) ⊎ (d ≡ BadName name) → Checks name value (Err d)
 closed name value d shut (inl e) = subst (λ (x : DbError). Checks name value (Err x)) (sym e) tt

@@ -10,7 +10,7 @@ use Rattle.oi_settings.specs.Keys.{path_text}
 use Rattle.oi_settings.specs.Schema.{Takes, is_open, table}
 use Rattle.oi_settings.specs.Texts.{Node, text_of}
 use Rattle.oi_nodedb.specs.declared.error.DbError.{DbError}
-use Rattle.oi_nodedb.specs.declared.error.DbError.TheVariants.{BadName, BadValue, BadRecord, NoObjects, InUse, StoreFault, Memory}
+use Rattle.oi_nodedb.specs.declared.error.DbError.TheVariants.{BadName, BadValue, NoObjects, InUse, StoreFault, Memory}
 use Rattle.oi_nodedb.specs.declared.filter.Filter.{Filter}
 use Rattle.oi_nodedb.specs.Filters.{in_use, matches, matching}
 use Rattle.oi_nodedb.specs.Databases.{changed, left, record_at, told_removed, told_texts, updated, with_record, with_value}

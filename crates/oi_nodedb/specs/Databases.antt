@@ -1,5 +1,5 @@
 -- The database: node records in ascending order of their keys.
-use Rattle.std.specs.Prelude.{ℕ, Bool, not, Option, List, [], ◌∷◌, map, filter, if◌then◌else◌}
+use Rattle.std.specs.Prelude.{ℕ, not, Option, List, [], ◌∷◌, map, filter, if◌then◌else◌}
 use Rattle.std.specs.List.{find}
 use Rattle.std.specs.List.Sorted.{IsStrictlySortedBy}
 use Rattle.std.specs.Ordering.{is_eq, is_lt}

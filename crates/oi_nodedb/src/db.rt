@@ -194,6 +194,20 @@ impl NodeDb {
         ensures updates { Updates filter.now name.now value.now result self.old self.new (R.records store.old) (R.records store.new) }
         ensures count { IsCounted result (R.faults store.old) (R.faults store.new) }
     {
+        self.update_bytes(store, filter, name.as_bytes(), value.as_bytes())
+    }
+
+    /// The same with a name and a value of which it is not known that they are texts.
+    pub fn update_bytes<R: RecordStore>(
+        &mut self,
+        store: &mut R,
+        filter: &Filter,
+        name: &[u8],
+        value: &[u8],
+    ) -> Result<u32, DbError>
+        ensures updates { Updates filter.now name.now value.now result self.old self.new (R.records store.old) (R.records store.new) }
+        ensures count { IsCounted result (R.faults store.old) (R.faults store.new) }
+    {
         match check_setting(self.alloc, name, value) {
             Ok(()) => {}
             Err(fault) => return Err(fault),
@@ -294,13 +308,13 @@ fn marked(alloc: Global, key: RecordKey, name: &str, value: &str) -> Result<Node
 }
 
 // Whether a setting of this name can be updated, and takes the value.
-fn check_setting(alloc: Global, name: &str, value: &str) -> Result<(), DbError>
+fn check_setting(alloc: Global, name: &[u8], value: &[u8]) -> Result<(), DbError>
     ensures { Checks name.now value.now result }
 {
-    if !is_open(name.as_bytes()) {
+    if !is_open(name) {
         return Err(bad_name(alloc, name));
     }
-    match takes_value(alloc, name.as_bytes(), value.as_bytes()) {
+    match takes_value(alloc, name, value) {
         Ok(true) => Ok(()),
         Ok(false) => Err(bad_value(alloc, name)),
         Err(_) => Err(DbError::Memory),
@@ -317,19 +331,19 @@ fn finished(done: Result<(), StoreError>, meant: usize) -> Result<u32, DbError>
     }
 }
 
-fn bad_name(alloc: Global, name: &str) -> DbError
+fn bad_name(alloc: Global, name: &[u8]) -> DbError
     ensures { (result ≡ Memory) ⊎ (result ≡ BadName name.now) }
 {
-    match Label::from_slice(alloc, name.as_bytes()) {
+    match Label::from_slice(alloc, name) {
         Ok(name) => DbError::BadName { name },
         Err(_) => DbError::Memory,
     }
 }
 
-fn bad_value(alloc: Global, name: &str) -> DbError
+fn bad_value(alloc: Global, name: &[u8]) -> DbError
     ensures { (result ≡ Memory) ⊎ (result ≡ BadValue name.now) }
 {
-    match Label::from_slice(alloc, name.as_bytes()) {
+    match Label::from_slice(alloc, name) {
         Ok(name) => DbError::BadValue { name },
         Err(_) => DbError::Memory,
     }

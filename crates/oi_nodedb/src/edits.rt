@@ -25,8 +25,8 @@ pub fn change_all<R: RecordStore>(
     alloc: Global,
     store: &mut R,
     filter: &Filter,
-    name: &str,
-    value: &str,
+    name: &[u8],
+    value: &[u8],
     records: &mut Vec<NodeRecord>,
 ) -> Result<(), StoreError>
     requires open { is_open name.now ≡ true }

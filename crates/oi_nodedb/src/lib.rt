@@ -5,6 +5,7 @@ mod db;
 mod edits;
 mod error;
 mod filter;
+mod laws;
 mod load;
 mod place;
 mod sessions;
@@ -14,4 +15,5 @@ mod tests;
 
 pub use db::NodeDb;
 pub use error::DbError;
-pub use filter::Filter;
+pub use filter::{Filter, is_portal};
+pub use laws::stores_follow;

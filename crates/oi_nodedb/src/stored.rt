@@ -61,8 +61,8 @@ pub fn change<R: RecordStore>(
     alloc: Global,
     store: &mut R,
     node: &mut NodeRecord,
-    name: &str,
-    value: &str,
+    name: &[u8],
+    value: &[u8],
 ) -> Result<(), StoreError>
     requires open { is_open name.now ≡ true }
     requires taken { Takes table name.now value.now }
@@ -86,15 +86,15 @@ pub fn change<R: RecordStore>(
 fn changed_record(
     alloc: Global,
     node: &NodeRecord,
-    name: &str,
-    value: &str,
+    name: &[u8],
+    value: &[u8],
 ) -> Result<NodeRecord, NoMemory>
     requires open { is_open name.now ≡ true }
     requires taken { Takes table name.now value.now }
     ensures { IfOk result (λ r. r ≡ with_value name.now value.now node.now) }
 {
     let mut changed = node.copy(alloc)?;
-    let name = Label::from_slice(alloc, name.as_bytes())?;
-    changed.set(name, Label::from_slice(alloc, value.as_bytes())?)?;
+    let name = Label::from_slice(alloc, name)?;
+    changed.set(name, Label::from_slice(alloc, value)?)?;
     Ok(changed)
 }

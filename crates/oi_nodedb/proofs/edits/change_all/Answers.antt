@@ -1,8 +1,7 @@
-use Rattle.std.proofs.Common.{◌≡◌, ◌<◌, ◌+◌, ◌∙◌, Bool, true, false, Err, take, drop, length, arith}
+use Rattle.std.proofs.Common.{◌<◌, ◌+◌, ◌∙◌, true, false, Err, take, drop, length, arith}
 use Rattle.oi_settings.specs.Keys.{path_text}
 use Rattle.oi_settings.specs.Texts.{text_of}
 use Rattle.oi_nodedb.specs.Databases.{changed, with_value}
-use Rattle.oi_nodedb.specs.Filters.{matches}
 use Rattle.oi_nodedb.proofs.Steps.{changed_kept, changed_more, meant_by, parted_at, put_next, put_none, update_changed, update_kept, update_read, update_stopped}
 use Rattle.oi_nodedb.proofs.Swaps.{Puts-from}
 use Rattle.oi_nodedb.proofs.edits.change_all.Goals as goal
