@@ -1,5 +1,5 @@
 -- A name that no setting has is not in a fresh record.
-use Rattle.std.proofs.Common.{◌≡◌, ℕ, Bool, true, false, true≢false, cond, Option, Some, None, is_some, List, [], ◌∷◌, ◌++◌, map, refl, sym, ap, ◌∙◌, bytes_eq}
+use Rattle.std.proofs.Common.{◌≡◌, ℕ, Bool, true, false, true≢false, cond, Option, Some, None, is_some, List, [], ◌∷◌, ◌++◌, map, refl, ap, ◌∙◌, bytes_eq}
 use Rattle.oi_settings.specs.Keys.{Key}
 use Rattle.oi_settings.specs.Pairs.{Pair, has_name, put, value_of}
 use Rattle.oi_settings.specs.Schema.{Row, fresh_pairs, initial_by, row_named, table}

@@ -1,9 +1,8 @@
 -- What a binary search among records in order finds.
-use Rattle.std.proofs.Common.{◌≡◌, ℕ, ◌<◌, ◌≤◌, inl, inr, true, false, Bool, List, [], Option, Some, None, IsSome, is_some, IfErr, IfOk, Result, Ok, Err, refl, sym, ap, ◌∙◌, subst, insert, length, get_or, slice_get, arith}
+use Rattle.std.proofs.Common.{◌≡◌, ℕ, ◌<◌, ◌≤◌, inl, inr, List, [], Some, None, IsSome, is_some, IfErr, IfOk, Result, Ok, Err, sym, ap, ◌∙◌, insert, length, get_or, slice_get, arith}
 use Rattle.std.specs.List.Sorted.{IsBinarySearchResult, IsSearchInRange}
 use Rattle.std.specs.Ordering.{is_eq}
-use Rattle.std.specs.declared.cmp.Ordering.{Ordering}
-use Rattle.std.specs.declared.cmp.Ordering.TheVariants.{Less, Equal, Greater}
+use Rattle.std.specs.declared.cmp.Ordering.TheVariants.{Less, Greater}
 use Rattle.std.proofs.lemmas.Bool.{cases_lt}
 use Rattle.std.proofs.lemmas.Option.{slice_get-get_or}
 use Rattle.oi_settings.specs.Keys.{Key, key_cmp}

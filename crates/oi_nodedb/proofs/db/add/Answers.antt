@@ -1,4 +1,4 @@
-use Rattle.std.proofs.Common.{◌≡◌, ◌≤◌, ◌∙◌, ap, Bool, List, Ok, Err, length, arith}
+use Rattle.std.proofs.Common.{◌≤◌, ◌∙◌, ap, Bool, List, Ok, Err, length, arith}
 use Rattle.std.specs.List.{remove}
 use Rattle.oi_settings.specs.Texts.{Node}
 use Rattle.oi_nodedb.proofs.Outcomes.{failed_add, failed_count, inserted_read, remove-insert}

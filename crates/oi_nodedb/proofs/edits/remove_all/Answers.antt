@@ -1,6 +1,6 @@
-use Rattle.std.proofs.Common.{◌≡◌, ◌<◌, ◌+◌, ◌∙◌, Bool, true, false, Err, take, drop, length, arith}
+use Rattle.std.proofs.Common.{◌<◌, ◌+◌, ◌∙◌, true, false, Err, take, drop, length, arith}
 use Rattle.oi_settings.specs.Keys.{path_text}
-use Rattle.oi_nodedb.specs.Filters.{matches, matching}
+use Rattle.oi_nodedb.specs.Filters.{matching}
 use Rattle.oi_nodedb.proofs.Steps.{delete_gone, delete_kept, delete_read, delete_stopped, kept_more, kept_same, matching_kept, matching_more, meant_by, parted_at, taken_next, taken_none}
 use Rattle.oi_nodedb.proofs.Swaps.{Removes-from}
 use Rattle.oi_nodedb.proofs.edits.remove_all.Goals as goal

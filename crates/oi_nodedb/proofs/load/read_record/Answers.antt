@@ -1,4 +1,4 @@
-use Rattle.std.proofs.Common.{ap, ◌∙◌, sym, refl, true, Some}
+use Rattle.std.proofs.Common.{◌∙◌, sym, Some}
 use Rattle.oi_nodedb.proofs.Loading.{read_as, told_text}
 use Rattle.oi_nodedb.proofs.load.read_record.Goals as goal
 

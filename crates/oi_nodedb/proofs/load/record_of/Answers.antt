@@ -1,4 +1,4 @@
-use Rattle.std.proofs.Common.{ap, ◌∙◌, sym, true}
+use Rattle.std.proofs.Common.{ap, ◌∙◌}
 use Rattle.oi_settings.specs.Keys.{Key, path_text}
 use Rattle.oi_nodedb.proofs.Loading.{bad_path, other_path, same_path}
 use Rattle.oi_nodedb.proofs.load.record_of.Goals as goal

@@ -1,4 +1,4 @@
-use Rattle.std.proofs.Common.{◌≡◌, ◌<◌, ◌≤◌, ◌∙◌, ap, sym, length, arith, Some, None, Err, take}
+use Rattle.std.proofs.Common.{◌<◌, ◌≤◌, ◌∙◌, length, arith, Some, None, Err}
 use Rattle.oi_nodedb.proofs.Loading.{ReadsAt-found, ReadsAt-from, all_passed, is_new, listed_ascend, listed_paths, listed_text, loaded, step_one, step_over, stopped}
 use Rattle.oi_nodedb.proofs.db.NodeDb.load.Goals as goal
 
