@@ -23,3 +23,5 @@ pub mod Losses
 pub mod Permitted
 pub mod Trackers
 pub mod Ledgers
+pub mod Judging
+pub mod Traces

@@ -6,7 +6,7 @@ use Rattle.std.specs.Option.{option_map_or}
 use Rattle.oi_base.specs.TagLayout.{age_after, management_tag, reserved_tag}
 use Rattle.oi_base.specs.declared.tag.Tag.{Tag}
 use Rattle.oi_history.specs.Handling.{is_idle, is_live, lun_at}
-use Rattle.oi_history.specs.Meanings.{Meanings, last_issue, meanings}
+use Rattle.oi_history.specs.Meanings.{Meanings, last_issue, meanings, step}
 use Rattle.oi_history.specs.Phases.{has_connection}
 use Rattle.oi_history.specs.Queues.{drawable, drawn}
 use Rattle.oi_history.specs.Sending.{command_pdu}
@@ -106,17 +106,17 @@ abbrev pub next_in : SessionConfig → ℕ → Meanings → List Event
 next_in C generation m =
     if m.logout_sent || not (has_connection m.phase) then [] else or_else (queued_next generation m.queue) (if is_some m.broken then [] else next_after_data C generation m)
 
--- the release of all tags that have ended
-abbrev pub released_by : List Tag → List Numbered → List Numbered
-released_by [] H = H
-released_by (tag ∷ tags) H = released_by tags (record { number = length H; event = Reap tag } ∷ H)
-
-abbrev pub released : SessionConfig → List Numbered → List Numbered
-released C H = released_by (meanings C H).ended H
+-- what stands after the release of tags; it asks no number of an entry
+abbrev pub reaped : SessionConfig → List Tag → Meanings → Meanings
+reaped C [] m = m
+reaped C (tag ∷ tags) m = reaped C tags (step C (Reap tag) 0 m)
 
 -- what is owed, once all ended tags are released
+abbrev pub owed_in : SessionConfig → Meanings → List Event
+owed_in C m = next_in C m.generation (reaped C m.ended m)
+
 abbrev pub owed : SessionConfig → List Numbered → List Event
-owed C H = next_in C (meanings C H).generation (meanings C (released C H))
+owed C H = owed_in C (meanings C H)
 
 -- the entries of one transmission
 abbrev pub turn : SessionConfig → List Numbered → List Event

@@ -6,7 +6,7 @@ use Rattle.oi_history.specs.Handling.{is_live}
 use Rattle.oi_history.specs.Legality.{IsAbove}
 use Rattle.oi_history.specs.Losses.{is_cause}
 use Rattle.oi_history.specs.Meanings.{Meanings, meanings}
-use Rattle.oi_history.specs.Owing.{owed, push_of, sendable}
+use Rattle.oi_history.specs.Owing.{owed_in, push_of, sendable}
 use Rattle.oi_history.specs.Phases.{has_connection, is_ended, is_logged_in}
 use Rattle.oi_history.specs.Queues.{drawable}
 use Rattle.oi_history.specs.Tags.{holder}
@@ -60,14 +60,14 @@ DrawsAll m (Draw count) = (count ≡ length (drawable m.busy m.tasks m.solicited
 DrawsAll m e = Unit {0}
 
 -- 9: another request is owed, with the next management tag; an answer to the target's own NOP-In has none
-abbrev pub IsOwed : SessionConfig → List Numbered → ℕ → Event → Type 0
-IsOwed C H tag e = (owed C H ≡ e ∷ []) × (tag ≡ reserved_tag ⊎ (meanings C H).managed < most_management_tags)
+abbrev pub IsOwed : SessionConfig → Meanings → ℕ → Event → Type 0
+IsOwed C m tag e = (owed_in C m ≡ e ∷ []) × (tag ≡ reserved_tag ⊎ m.managed < most_management_tags)
 
-abbrev pub IsAsked : SessionConfig → List Numbered → Event → Type 0
-IsAsked C H (Manage generation tag function subject) = IsOwed C H tag.0 (Manage generation tag function subject)
-IsAsked C H (Nop generation tag ttt lun) = IsOwed C H tag (Nop generation tag ttt lun)
-IsAsked C H (Logout generation tag) = IsOwed C H tag.0 (Logout generation tag)
-IsAsked C H e = Unit {0}
+abbrev pub IsAsked : SessionConfig → Meanings → Event → Type 0
+IsAsked C m (Manage generation tag function subject) = IsOwed C m tag.0 (Manage generation tag function subject)
+IsAsked C m (Nop generation tag ttt lun) = IsOwed C m tag (Nop generation tag ttt lun)
+IsAsked C m (Logout generation tag) = IsOwed C m tag.0 (Logout generation tag)
+IsAsked C m e = Unit {0}
 
 -- 10: the clock does not go back
 abbrev pub GoesOn : Meanings → Event → Type 0
@@ -115,7 +115,7 @@ pub record IsPermitted (C : SessionConfig) (H : List Numbered) (n : Numbered) : 
   pub pushed : IsNextData (meanings C H) n.event
   pub released : IsFirstEnded (meanings C H) n.event
   pub drawn : DrawsAll (meanings C H) n.event
-  pub owed : IsAsked C H n.event
+  pub owed : IsAsked C (meanings C H) n.event
   pub ticks : GoesOn (meanings C H) n.event
   pub lost : HasCause C (meanings C H) n.event
   pub login : IsNextLogin (meanings C H) n.event
@@ -138,7 +138,7 @@ Breaks rule C H n =
     Fails (IsNextData (meanings C H) n.event) rule 6 (
     Fails (IsFirstEnded (meanings C H) n.event) rule 7 (
     Fails (DrawsAll (meanings C H) n.event) rule 8 (
-    Fails (IsAsked C H n.event) rule 9 (
+    Fails (IsAsked C (meanings C H) n.event) rule 9 (
     Fails (GoesOn (meanings C H) n.event) rule 10 (
     Fails (HasCause C (meanings C H) n.event) rule 11 (
     Fails (IsNextLogin (meanings C H) n.event) rule 12 (

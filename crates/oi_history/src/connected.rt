@@ -1,5 +1,5 @@
 ghost use Rattle.std.specs.Prelude.{◌≡◌, ◌++◌, ◌<◌, ◌+◌, ◌-◌, ◌^◌, ◌≤◌, ◌∷◌, [], OnOk, drop};
-ghost use Rattle.oi_base.specs.TagLayout.{age_after};
+ghost use Rattle.oi_base.specs.TagLayout.{age_after, management_tag};
 ghost use Rattle.oi_history.specs.Connected.{asked_step, asked_told, echoes_step, echoes_told, given_rule, heard_step, is_given, is_its_tag, is_logout_response, leaving_step, logged_out_step, logout_step, managed_step, ping_step, ping_told, rule_on};
 
 use crate::acceptance::rule_of;
@@ -126,9 +126,15 @@ fn age(generation: u64) -> u8
 fn is_given(generation: u64, managed: u32, tag: Tag) -> bool
     ensures { result ≡ is_given generation managed tag.0 }
 {
-    let first = u64::from(age(generation)) * 0x1000_0000 + 0x0800_0000;
     let tag = u64::from(tag.0);
-    first <= tag && tag < first + u64::from(managed)
+    next_number(generation, 0) <= tag && tag < next_number(generation, managed)
+}
+
+/// The management tag of a connection that gave so many before.
+pub fn next_number(generation: u64, managed: u32) -> u64
+    ensures { result ≡ management_tag (age_after generation) managed }
+{
+    u64::from(age(generation)) * 0x1000_0000 + 0x0800_0000 + u64::from(managed)
 }
 
 fn given_rule(generation: u64, managed: u32, tag: Tag) -> Option<Rule>

@@ -1,6 +1,6 @@
 ghost use Rattle.std.specs.Prelude.{◌≡◌};
 ghost use Rattle.oi_history.specs.Courses.{clock_step, given_up, is_at_once, is_fail_fast, is_overdue, phase_step, without_connection};
-ghost use Rattle.oi_history.specs.Phases.{ended_by};
+ghost use Rattle.oi_history.specs.Phases.{ended_by, has_connection, is_ended, is_logged_in};
 
 use crate::config::SessionConfig;
 use crate::event::Event;
@@ -85,5 +85,35 @@ pub fn phase_step(config: &SessionConfig, now: u64, event: &Event, phase: Phase)
         Event::Tick { now: reading } => given_up(config.replacement, *reading, phase),
         Event::Terminate { cause } => ended_by(*cause, phase),
         _ => phase,
+    }
+}
+
+/// The session stands on a connection.
+pub fn has_connection(phase: Phase) -> bool
+    ensures { result ≡ has_connection phase }
+{
+    match phase {
+        Phase::LoggedIn { .. } => true,
+        _ => false,
+    }
+}
+
+/// In the full feature phase of the connection with this generation.
+pub fn is_logged_in(phase: Phase, generation: u64) -> bool
+    ensures { result ≡ is_logged_in phase generation }
+{
+    match phase {
+        Phase::LoggedIn { generation: live } => live == generation,
+        _ => false,
+    }
+}
+
+/// The session is over.
+pub fn is_ended(phase: Phase) -> bool
+    ensures { result ≡ is_ended phase }
+{
+    match phase {
+        Phase::Ended { .. } => true,
+        _ => false,
     }
 }

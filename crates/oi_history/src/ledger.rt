@@ -1,20 +1,30 @@
+use crate::acceptance::holder_of;
 use crate::allocated::Allocated;
 use crate::config::SessionConfig;
-use crate::connected::{asked_step, echoes_step, rule_on};
-use crate::course::is_fail_fast;
+use crate::connected::{asked_step, echoes_step, next_number, rule_on};
+use crate::course::{has_connection, is_ended, is_fail_fast, is_logged_in};
 use crate::ending::live_tags;
-use crate::event::{Event, Numbered};
+use crate::event::{Event, Numbered, Subject};
+use crate::fate::Fate;
+use crate::handling::{is_live, is_spent};
 use crate::ledger_steps::{
     broken_step, busy_step, counts, ended_step, free_step, generation_step, is_joint, params_step,
     queue_step, solicited_step, stat_step, tasks_step, told_step, window_step,
 };
 use crate::owed::{Echo, Queued, Solicited, Told};
-use crate::phase::{Handler, Phase};
+use crate::phase::{Handler, LostCause, Phase};
+use crate::reply::is_done;
 use crate::rule::Rule;
-use crate::tables::fresh_tags;
+use crate::rules::{
+    are_over, asked_by, asks_for, asks_nothing, drawable, due, first_broken, first_echo,
+    first_queued, is_above, is_answer, is_broken_by, is_first, is_front, is_held, is_place,
+    is_send, is_timed_out, is_whole, rests, sendable, sends,
+};
+use crate::tables::{fates_of, fresh_tags};
 use crate::task::Task;
 use crate::tracker::Tracker;
-use oi_base::{NoMemory, Params, Serial, Tag};
+use oi_base::{NoMemory, Params, Serial, Series, Tag};
+use oi_timers::{PingDue, ping};
 use oi_window::Window;
 use std::alloc::Global;
 use std::collections::VecDeque;
@@ -82,12 +92,22 @@ impl Model for Ledger {
 }
 
 impl Ledger {
-    ghost use Rattle.std.specs.Prelude.{◌≡◌, IfOk, OnOk, slice_get};
-    ghost use Rattle.std.specs.Option.{option_copied};
+    ghost use Rattle.std.specs.Prelude.{◌≡◌, ◌<◌, ◌==◌, ◌↔◌, ◌⊎◌, ◌∷◌, [], IfOk, IsTrue, List, None, OnOk, Some, is_some, map, slice_get};
+    ghost use Rattle.std.specs.List.{position};
+    ghost use Rattle.std.specs.Option.{option_copied, option_map_or};
+    ghost use Rattle.oi_base.specs.Limits.{most_management_tags};
+    ghost use Rattle.oi_base.specs.TagLayout.{reserved_tag};
+    ghost use Rattle.oi_history.specs.Judging.{IsJudged, last_number, may_ask};
+    ghost use Rattle.oi_history.specs.Owing.{echo_next, next_management, or_else, owed_in, ping_next};
+    ghost use Rattle.oi_history.specs.declared.event.Event.TheVariants.{Logout, Manage, Nop};
+    ghost use Rattle.oi_history.specs.declared.event.Numbered.{Numbered};
+    ghost use Rattle.oi_history.specs.Losses.{is_cause};
+    ghost use Rattle.oi_history.specs.Permitted.{Comes, DrawsAll, GoesOn, HandsOut, HasCause, IsAsked, IsFirstEnded, IsHeeded, IsNextCommand, IsNextData, IsNextLogin, IsNumbered, IsTagged, StandsBehind};
+    ghost use Rattle.oi_timers.specs.Ping.{ping_due};
     ghost use Rattle.oi_history.specs.Configs.{IsValidConfig};
     ghost use Rattle.oi_history.specs.Connected.{asked_step, echoes_step};
     ghost use Rattle.oi_history.specs.Ledgers.{CanStep, IsLogin};
-    ghost use Rattle.oi_history.specs.Meanings.{allocated_step, ended_step, first_meanings, is_current_in, rule_in, step};
+    ghost use Rattle.oi_history.specs.Meanings.{allocated_step, ended_step, first_meanings, is_current_in, meanings, rule_in, step};
     ghost use Rattle.oi_history.specs.Queues.{queue_step, solicited_step};
     ghost use Rattle.oi_history.specs.Recovering.{tasks_step};
     ghost use Rattle.oi_history.specs.Tags.{free_after};
@@ -290,5 +310,342 @@ impl Ledger {
         busy_step(&mut self.busy, event)?;
         echoes_step(&mut self.echoes, accepted, event)?;
         asked_step(&mut self.asked, accepted, event)
+    }
+
+    // Rule 2.
+    fn comes(&self, event: &Event) -> bool
+        ensures { IsTrue result ↔ Comes self.now.now event.now }
+    {
+        match event {
+            Event::Submit { id, request } => {
+                *id == self.tasks.len() as u64
+                    && request.kind.is_valid()
+                    && !is_ended(self.tracker.phase)
+            }
+            _ => true,
+        }
+    }
+
+    // Rule 3.
+    fn is_next_command(&self, event: &Event) -> bool
+        ensures { IsTrue result ↔ IsNextCommand self.now.config self.now.now event.now }
+    {
+        match event {
+            Event::Issue { id, generation, .. } => {
+                is_place(sendable(self.config.queue_depth, &self.tasks), *id)
+                    && is_logged_in(self.tracker.phase, *generation)
+                    && rests(self.tracker.handler)
+                    && !self.tracker.leaving
+                    && is_whole(self.broken)
+            }
+            _ => true,
+        }
+    }
+
+    // Rule 4.
+    fn is_numbered(&self, event: &Event) -> bool
+        ensures { IsTrue result ↔ IsNumbered self.now.now event.now }
+    {
+        match event {
+            Event::Issue { cmdsn, .. } => {
+                *cmdsn == self.window.next().0 && self.window.is_open()
+            }
+            _ => true,
+        }
+    }
+
+    // Rule 5.
+    fn is_tagged(&self, event: &Event) -> bool
+        ensures { IsTrue result ↔ IsTagged self.now.now event.now }
+    {
+        match event {
+            Event::Issue { tag, .. } => is_front(&self.free, *tag) && self.ended.is_empty(),
+            _ => true,
+        }
+    }
+
+    // Rule 6.
+    fn is_next_data(&self, event: &Event) -> bool
+        ensures { IsTrue result ↔ IsNextData self.now.now event.now }
+    {
+        match event {
+            Event::Push { id, .. } => match first_queued(&self.queue) {
+                Some(queued) => {
+                    sends(event, self.generation, queued)
+                        && is_held(holder_of(&self.busy, queued.tag), *id)
+                }
+                None => false,
+            },
+            _ => true,
+        }
+    }
+
+    // Rule 7.
+    fn is_first_ended(&self, event: &Event) -> bool
+        ensures { IsTrue result ↔ IsFirstEnded self.now.now event.now }
+    {
+        match event {
+            Event::Reap { tag } => is_first(&self.ended, *tag),
+            _ => true,
+        }
+    }
+
+    // Rule 8.
+    fn draws_all(&self, event: &Event) -> bool
+        ensures { IsTrue result ↔ DrawsAll self.now.now event.now }
+    {
+        match event {
+            Event::Draw { count } => {
+                *count >= 1 && *count as usize == drawable(&self.busy, &self.tasks, &self.solicited)
+            }
+            _ => true,
+        }
+    }
+
+    // Rule 10.
+    fn goes_on(&self, event: &Event) -> bool
+        ensures { IsTrue result ↔ GoesOn self.now.now event.now }
+    {
+        match event {
+            Event::Tick { now } => self.tracker.clock <= *now && *now < 1 << 53,
+            _ => true,
+        }
+    }
+
+    fn ping_due(&self) -> PingDue
+        ensures { result ≡ ping_due self.now.now.heard (option_map_or (λ p. Some p.sent) self.now.now.ping None)
+            self.now.config.noop_interval self.now.config.noop_timeout self.now.now.clock }
+    {
+        let sent = self.tracker.ping.map(|p| p.sent);
+        ping(
+            self.tracker.heard,
+            sent,
+            self.config.noop_interval,
+            self.config.noop_timeout,
+            self.tracker.clock,
+        )
+    }
+
+    // The target asked by this event.
+    fn was_asked(&self, event: u8) -> bool
+        ensures { result ≡ is_some (position (λ e. e == event) self.now.now.asked) }
+    {
+        asked_by(&self.asked, event)
+    }
+
+    fn is_cause(&self, cause: &LostCause) -> bool
+        ensures { result ≡ is_cause self.now.config self.now.now cause.now }
+    {
+        match cause {
+            LostCause::Broken(rule) => is_broken_by(*rule, self.broken),
+            LostCause::Ping => is_timed_out(self.ping_due()),
+            LostCause::Handler => is_spent(self.tracker.handler),
+            LostCause::Asked(event) => self.was_asked(*event),
+            _ => true,
+        }
+    }
+
+    // Rule 11.
+    fn has_cause(&self, event: &Event) -> bool
+        ensures { IsTrue result ↔ HasCause self.now.config self.now.now event.now }
+    {
+        match event {
+            Event::Lost { generation, cause } => {
+                is_logged_in(self.tracker.phase, *generation) && self.is_cause(cause)
+            }
+            _ => true,
+        }
+    }
+
+    // Rule 12.
+    fn is_next_login(&self, event: &Event) -> bool
+        ensures { IsTrue result ↔ IsNextLogin self.now.now event.now }
+    {
+        match event {
+            Event::Login {
+                generation,
+                params,
+                ..
+            } => {
+                *generation > self.generation
+                    && *generation - self.generation == 1
+                    && params.max_send >= 1
+                    && !has_connection(self.tracker.phase)
+                    && !is_ended(self.tracker.phase)
+            }
+            _ => true,
+        }
+    }
+
+    // Rule 13.
+    #[tactic(auto, using(crate::proofs::Judged::due_counted))]
+    fn hands_out(&self, event: &Event) -> bool
+        ensures { IsTrue result ↔ HandsOut self.now.now event.now }
+    {
+        match event {
+            Event::Deliver { count } => *count >= 1 && *count as usize == due(&self.tasks),
+            _ => true,
+        }
+    }
+
+    // Rule 14.
+    fn is_heeded(&self, event: &Event) -> bool
+        ensures { IsTrue result ↔ IsHeeded self.now.now event.now }
+    {
+        match event {
+            Event::Abort { id } => match self.task(*id) {
+                Some(task) => {
+                    !is_done(&task.fate) && (!is_live(&task.fate) || rests(self.tracker.handler))
+                }
+                None => false,
+            },
+            Event::ResetLun { .. } | Event::ResetTarget => {
+                has_connection(self.tracker.phase) && rests(self.tracker.handler)
+            }
+            Event::Leave => has_connection(self.tracker.phase),
+            _ => true,
+        }
+    }
+
+    // Rule 15.
+    fn stands_behind(&self, event: &Event) -> bool
+        ensures { IsTrue result ↔ StandsBehind self.now.now event.now }
+    {
+        match event {
+            Event::PduIn { .. } | Event::Deliver { .. } => true,
+            _ => !is_ended(self.tracker.phase),
+        }
+    }
+
+    // The connection can take a further request.
+    fn may_ask(&self) -> bool
+        ensures { result ≡ may_ask self.now.now }
+    {
+        !(self.tracker.logout_sent || !has_connection(self.tracker.phase))
+            && self.broken.is_none()
+            && are_over(&self.ended, &self.queue)
+    }
+
+    // On the present connection, with its next management tag.
+    fn is_its_next(&self, generation: u64, tag: u32) -> bool
+        ensures { IsTrue result ↔ ((generation ≡ self.now.now.generation) × (tag ≡ (next_management self.now.now).0)) }
+    {
+        generation == self.generation
+            && u64::from(tag) == next_number(self.generation, self.tracker.managed)
+    }
+
+    // A management tag is left, or none is asked for.
+    fn has_tag(&self, tag: u32) -> bool
+        ensures { IsTrue result ↔ (tag ≡ reserved_tag ⊎ self.now.now.managed < most_management_tags) }
+    {
+        tag == u32::MAX || self.tracker.managed < 1_000_000
+    }
+
+    // A NOP-Out that is next behind data, the wish to leave and the error handler.
+    fn is_next_nop(&self, generation: u64, tag: u32, ttt: u32, lun: &[u8; 8]) -> bool
+        ensures { IsTrue result ↔ (or_else (echo_next self.now.now.generation self.now.now.echoes)
+            (ping_next self.now.config self.now.now.generation self.now.now) ≡ Nop generation tag ttt lun.now ∷ []) }
+    {
+        match first_echo(&self.echoes) {
+            Some(echo) => {
+                generation == self.generation && tag == u32::MAX && is_answer(echo, ttt, lun)
+            }
+            None => {
+                is_send(self.ping_due())
+                    && self.is_its_next(generation, tag)
+                    && ttt == u32::MAX
+                    && *lun == [0; 8]
+            }
+        }
+    }
+
+    #[tactic(auto, using(crate::proofs::Asked::logout_owed))]
+    fn owes_logout(&self, generation: u64, tag: Tag) -> bool
+        ensures { IsTrue result ↔ (owed_in self.now.config self.now.now ≡ Logout generation tag ∷ []) }
+    {
+        if !self.may_ask() || !self.tracker.leaving {
+            return false;
+        }
+        self.is_its_next(generation, tag.0)
+    }
+
+    #[tactic(auto, using(crate::proofs::Asked::manage_owed))]
+    fn owes_request(&self, generation: u64, tag: Tag, function: u8, subject: Subject) -> bool
+        ensures { IsTrue result ↔ (owed_in self.now.config self.now.now ≡ Manage generation tag function subject ∷ []) }
+    {
+        if !self.may_ask() || self.tracker.leaving || !self.is_its_next(generation, tag.0) {
+            return false;
+        }
+        asks_for(self.tracker.handler, function, subject)
+    }
+
+    #[tactic(auto, using(crate::proofs::Asked::nop_owed))]
+    fn owes_nop(&self, generation: u64, tag: u32, ttt: u32, lun: &[u8; 8]) -> bool
+        ensures { IsTrue result ↔ (owed_in self.now.config self.now.now ≡ Nop generation tag ttt lun.now ∷ []) }
+    {
+        if !self.may_ask() || self.tracker.leaving || !asks_nothing(self.tracker.handler) {
+            return false;
+        }
+        self.is_next_nop(generation, tag, ttt, lun)
+    }
+
+    // Rule 9.
+    fn is_asked(&self, event: &Event) -> bool
+        ensures { IsTrue result ↔ IsAsked self.now.config self.now.now event.now }
+    {
+        match event {
+            Event::Manage {
+                generation,
+                tag,
+                function,
+                subject,
+            } => {
+                self.owes_request(*generation, *tag, *function, *subject) && self.has_tag(tag.0)
+            }
+            Event::Nop {
+                generation,
+                tag,
+                ttt,
+                lun,
+            } => self.owes_nop(*generation, *tag, *ttt, lun) && self.has_tag(*tag),
+            Event::Logout { generation, tag } => {
+                self.owes_logout(*generation, *tag) && self.has_tag(tag.0)
+            }
+            _ => true,
+        }
+    }
+
+    /// The first rule that an entry breaks behind those so far, by its number, where it breaks one; `last` is the number
+    /// of the newest of them.
+    pub fn broken_rule(&self, last: Option<u64>, entry: &Numbered) -> Option<u8>
+        ensures steps { result ≡ None → CanStep self.now.now entry.now.event }
+        ensures judged { (H : List Numbered) → self.now.now ≡ meanings self.now.config H → last ≡ last_number H → IsJudged result self.now.config H entry.now }
+    {
+        let event = &entry.event;
+        first_broken(&[
+            is_above(last, entry.number),
+            self.comes(event),
+            self.is_next_command(event),
+            self.is_numbered(event),
+            self.is_tagged(event),
+            self.is_next_data(event),
+            self.is_first_ended(event),
+            self.draws_all(event),
+            self.is_asked(event),
+            self.goes_on(event),
+            self.has_cause(event),
+            self.is_next_login(event),
+            self.hands_out(event),
+            self.is_heeded(event),
+            self.stands_behind(event),
+        ])
+    }
+
+    /// Where the submissions stand, by id.
+    pub fn into_fates(self) -> Result<Series<Fate>, NoMemory>
+        ensures { IfOk result (λ found. found ≡ map (λ t. t.fate) self.now.tasks) }
+    {
+        let Ledger { alloc, tasks, .. } = self;
+        fates_of(alloc, tasks)
     }
 }

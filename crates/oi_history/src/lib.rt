@@ -21,12 +21,16 @@ mod receiving;
 mod recovering;
 mod reply;
 mod rule;
+mod rules;
 mod sending;
 mod state;
 mod tables;
 mod task;
 #[cfg(test)]
 mod tests;
+mod trace;
+#[cfg(test)]
+mod trace_tests;
 mod tracker;
 
 pub use allocated::Allocated;
@@ -42,3 +46,4 @@ pub use reply::ReplyData;
 pub use rule::Rule;
 pub use state::State;
 pub use task::{Received, Task};
+pub use trace::{Fates, TraceFault, check_trace};

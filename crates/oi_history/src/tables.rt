@@ -9,7 +9,7 @@ use crate::allocated::Allocated;
 use crate::fate::{Delivered, Fate};
 use crate::reply::{cut_off, data_to, is_done, is_waiting, issue, response_to};
 use crate::task::Task;
-use oi_base::{NoMemory, Tag};
+use oi_base::{NoMemory, Series, Tag};
 use oi_pdu::{DataIn, ScsiResponse};
 use std::alloc::Global;
 use std::collections::VecDeque;
@@ -154,4 +154,16 @@ pub fn due(alloc: Global, tasks: &[Task]) -> Result<Vec<Delivered>, NoMemory>
         add_due(alloc, id as u64, task, &mut out)?;
     }
     Ok(out)
+}
+
+/// Where the submissions stand, by id.
+pub fn fates_of(alloc: Global, tasks: Vec<Task>) -> Result<Series<Fate>, NoMemory>
+    ensures { IfOk result (λ found. found ≡ map (λ t. t.fate) tasks.items) }
+{
+    let mut fates = Vec::new(alloc);
+    for task in tasks {
+        let Task { fate, .. } = task;
+        fates.push(fate)?;
+    }
+    Ok(Series::from_vec(fates))
 }

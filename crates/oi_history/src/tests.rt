@@ -13,7 +13,7 @@ use std::alloc::Global;
 use std::process::Abort;
 use std::test::Fail;
 
-fn config(replacement: i32) -> SessionConfig
+pub(crate) fn config(replacement: i32) -> SessionConfig
     requires { (negsuc 0 ≤ℤ replacement) × (replacement ≤ℤ pos 86400) }
     ensures { IsValidConfig result }
 {
@@ -206,7 +206,7 @@ fn requests_without_a_connection(rt: HostRuntime) -> Result<(), Fail> {
     Ok(())
 }
 
-fn submit(id: u64) -> Event
+pub(crate) fn submit(id: u64) -> Event
     ensures { (m : Meanings) → CanStep m result }
 {
     let request = Request {
@@ -216,7 +216,7 @@ fn submit(id: u64) -> Event
     Event::Submit { id, request }
 }
 
-fn login() -> Event
+pub(crate) fn login() -> Event
     ensures { (m : Meanings) → CanStep m result }
 {
     Event::Login {
@@ -238,7 +238,7 @@ fn login() -> Event
     }
 }
 
-fn cut() -> Event
+pub(crate) fn cut() -> Event
     ensures { (m : Meanings) → CanStep m result }
 {
     Event::Lost {

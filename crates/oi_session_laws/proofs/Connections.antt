@@ -33,12 +33,12 @@ logged_in (Recovering since) generation last is on = absurd cc
 logged_in (FailFast since) generation last is on = absurd cc
 logged_in (Ended cause) generation last is on = absurd cc
 
-sent_on_last : (C : SessionConfig) (H : List Numbered) (e : Event) → IsNextCommand C (meanings C H) e → IsNextData (meanings C H) e → IsAsked C H e → IsOn (meanings C H).generation (sends_on e)
+sent_on_last : (C : SessionConfig) (H : List Numbered) (e : Event) → IsNextCommand C (meanings C H) e → IsNextData (meanings C H) e → IsAsked C (meanings C H) e → IsOn (meanings C H).generation (sends_on e)
 sent_on_last C H (Issue id generation tag cmdsn) next pushed asked = logged_in (meanings C H).phase generation (meanings C H).generation (last_login C H) next.1
 sent_on_last C H (Push id generation ttt number offset size last) next pushed asked = let same = pushed.2 in cc
-sent_on_last C H (Manage generation tag function subject) next pushed asked = (owed_one C H (Manage generation tag function subject) asked.0).0
-sent_on_last C H (Nop generation tag ttt lun) next pushed asked = (owed_one C H (Nop generation tag ttt lun) asked.0).0
-sent_on_last C H (Logout generation tag) next pushed asked = (owed_one C H (Logout generation tag) asked.0).0
+sent_on_last C H (Manage generation tag function subject) next pushed asked = (owed_one C (meanings C H) (Manage generation tag function subject) asked.0).0
+sent_on_last C H (Nop generation tag ttt lun) next pushed asked = (owed_one C (meanings C H) (Nop generation tag ttt lun) asked.0).0
+sent_on_last C H (Logout generation tag) next pushed asked = (owed_one C (meanings C H) (Logout generation tag) asked.0).0
 sent_on_last C H e next pushed asked = tt
 
 not_sent_on : (o : Option ℕ) (last g : ℕ) → IsOn last o → (last ≡ g → ⊥) → is_on g o ≡ false

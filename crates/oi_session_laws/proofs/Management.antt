@@ -6,8 +6,8 @@ use Rattle.oi_base.specs.TagLayout.{age_after, management_tag, reserved_tag}
 use Rattle.oi_base.specs.declared.tag.Tag.{Tag}
 use Rattle.oi_history.specs.Connected.{managed_step, one_given}
 use Rattle.oi_history.specs.Handling.{is_idle}
-use Rattle.oi_history.specs.Meanings.{Meanings, meanings}
-use Rattle.oi_history.specs.Owing.{drawn_next, drawn_with, echo_next, issue_next, issue_with, logout_next, managed_next, next_after_data, next_in, next_management, or_else, owed, ping_next, queued_next, released, released_by, sendable}
+use Rattle.oi_history.specs.Meanings.{Meanings, meanings, step}
+use Rattle.oi_history.specs.Owing.{drawn_next, drawn_with, echo_next, issue_next, issue_with, logout_next, managed_next, next_after_data, next_in, next_management, or_else, owed_in, ping_next, queued_next, reaped, sendable}
 use Rattle.oi_history.specs.Permitted.{ArePermitted, IsAsked}
 use Rattle.oi_history.specs.Phases.{generation_after, has_connection}
 use Rattle.oi_history.specs.declared.config.SessionConfig.{SessionConfig}
@@ -93,15 +93,15 @@ owed_tags C last m =
 
 -- the release of tags gives none
 
-released_next : (C : SessionConfig) (tags : List Tag) (H : List Numbered) → (next_management (meanings C (released_by tags H))).0 ≡ (next_management (meanings C H)).0
-released_next C [] H = refl
-released_next C (tag ∷ tags) H = released_next C tags (record { number = length H; event = Reap tag } ∷ H)
+released_next : (C : SessionConfig) (tags : List Tag) (m : Meanings) → (next_management (reaped C tags m)).0 ≡ (next_management m).0
+released_next C [] m = refl
+released_next C (tag ∷ tags) m = released_next C tags (step C (Reap tag) 0 m)
 
-pub owed_one : (C : SessionConfig) (H : List Numbered) (e : Event) → owed C H ≡ e ∷ [] → IsNextTag (meanings C H).generation (next_management (meanings C H)).0 e
-owed_one C H e is =
-    let all = owed_tags C (meanings C H).generation (meanings C (released C H)) in
-    let one = subst (λ (es : List Event). AreNextTags (meanings C H).generation (next_management (meanings C (released C H))).0 es) is all in
-    subst (λ (next : ℕ). IsNextTag (meanings C H).generation next e) (released_next C (meanings C H).ended H) one.0
+pub owed_one : (C : SessionConfig) (m : Meanings) (e : Event) → owed_in C m ≡ e ∷ [] → IsNextTag m.generation (next_management m).0 e
+owed_one C m e is =
+    let all = owed_tags C m.generation (reaped C m.ended m) in
+    let one = subst (λ (es : List Event). AreNextTags m.generation (next_management (reaped C m.ended m)).0 es) is all in
+    subst (λ (next : ℕ). IsNextTag m.generation next e) (released_next C m.ended m) one.0
 
 -- counts
 
@@ -125,12 +125,12 @@ given_nop age managed tags tag true is p next few = p
 given_nop age managed tags tag false is p (inl none) few = absurd (let on = same_bit tag reserved_tag none in let off : bit (nat_eq tag reserved_tag) ≡ 0 = ap bit is in omega (arith, on, off))
 given_nop age managed tags tag false is p (inr next) few = given_one age managed tags (record { 0 = tag }) p next few
 
-given_step : (C : SessionConfig) (H : List Numbered) (e : Event) (tags : List Tag) → IsAsked C H e → AreGiven (age_after (meanings C H).generation) (meanings C H).managed tags
+given_step : (C : SessionConfig) (H : List Numbered) (e : Event) (tags : List Tag) → IsAsked C (meanings C H) e → AreGiven (age_after (meanings C H).generation) (meanings C H).managed tags
     → AreGiven (age_after (generation_after e (meanings C H).generation)) (managed_step e (meanings C H).managed) (given_after e tags)
 given_step C H (Login generation params cmdsn max exp_stat) tags asked p = record { are = refl; few = omega arith }
-given_step C H (Manage generation tag function subject) tags asked p = given_one _ _ tags tag p (owed_one C H (Manage generation tag function subject) asked.0).1 asked.1
-given_step C H (Logout generation tag) tags asked p = given_one _ _ tags tag p (owed_one C H (Logout generation tag) asked.0).1 asked.1
-given_step C H (Nop generation tag ttt lun) tags asked p = given_nop _ _ tags tag (nat_eq tag reserved_tag) refl p (owed_one C H (Nop generation tag ttt lun) asked.0).1 asked.1
+given_step C H (Manage generation tag function subject) tags asked p = given_one _ _ tags tag p (owed_one C (meanings C H) (Manage generation tag function subject) asked.0).1 asked.1
+given_step C H (Logout generation tag) tags asked p = given_one _ _ tags tag p (owed_one C (meanings C H) (Logout generation tag) asked.0).1 asked.1
+given_step C H (Nop generation tag ttt lun) tags asked p = given_nop _ _ tags tag (nat_eq tag reserved_tag) refl p (owed_one C (meanings C H) (Nop generation tag ttt lun) asked.0).1 asked.1
 given_step C H e tags asked p = p
 
 pub are_given : (C : SessionConfig) (H : List Numbered) → ArePermitted C H → AreGiven (age_after (meanings C H).generation) (meanings C H).managed (given_tags H)
