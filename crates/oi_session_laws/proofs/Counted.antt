@@ -1,6 +1,7 @@
 -- How many submissions there are: one more by each request that comes in.
-use Rattle.std.proofs.Common.{◌≡◌, ◌∙◌, ◌+◌, ◌==◌, ◌||◌, ℕ, suc, zero, Bool, true, false, List, [], ◌∷◌, ◌++◌, length, map, ap, sym, refl, arith, nat_eq, nat_lt, Option, Some, None, if◌then◌else◌}
+use Rattle.std.proofs.Common.{◌≡◌, ◌∙◌, ◌+◌, ◌==◌, ◌||◌, ℕ, suc, zero, Bool, true, false, List, [], ◌∷◌, ◌++◌, length, length-append, ap, sym, refl, arith, nat_eq, nat_lt, Option, Some, None, if◌then◌else◌}
 use Rattle.std.proofs.lemmas.Bool.Decides.{nat_tests}
+use Rattle.std.proofs.lemmas.List.{length-map}
 use Rattle.std.specs.Option.{option_map_or}
 use Rattle.oi_history.specs.Courses.{is_overdue}
 use Rattle.oi_history.specs.Handling.{sent_under}
@@ -21,10 +22,6 @@ use Rattle.oi_pdu.specs.declared.header.Header.{Header}
 use Rattle.oi_pdu.specs.declared.header.Header.TheVariants.{ScsiResponse, DataIn, TaskResponse}
 use Rattle.oi_session_laws.specs.Answers.{is_submit, was_submitted}
 
-count-map : (f : Task → Task) (ts : List Task) → length (map f ts) ≡ length ts
-count-map f [] = refl
-count-map f (t ∷ ts) = ap suc (count-map f ts)
-
 count-from : (f : ℕ → Task → Task) (k : ℕ) (ts : List Task) → length (map_from k f ts) ≡ length ts
 count-from f k [] = refl
 count-from f k (t ∷ ts) = ap suc (count-from f (k + 1) ts)
@@ -43,13 +40,12 @@ count-if true us ts is = is
 count-if false us ts is = refl
 
 one_more : (ts : List Task) (t : Task) → length (ts ++ t ∷ []) ≡ suc (length ts)
-one_more [] t = refl
-one_more (x ∷ ts) t = ap suc (one_more ts t)
+one_more ts t = let more = length-append ts (t ∷ []) in omega (arith, more)
 
 count_carried : (a at : ℕ) (handler : Handler) (ts : List Task) → length (carried_out a at handler ts) ≡ length ts
 count_carried a at (Aborting id tag since) ts = count-at _ id ts
-count_carried a at (ResettingLun lun tag since) ts = count-map _ ts
-count_carried a at (ResettingTarget tag since) ts = count-map _ ts
+count_carried a at (ResettingLun lun tag since) ts = length-map ts _
+count_carried a at (ResettingTarget tag since) ts = length-map ts _
 count_carried a at handler ts = refl
 
 count_heard : (a at : ℕ) (handler : Handler) (busy : List Allocated) (head : Header) (payload : List ℕ) (ts : List Task) → length (tasks_heard a at handler busy head payload ts) ≡ length ts
@@ -71,10 +67,10 @@ known_after C at m accepted (Submit k request) id b comes is = ap (λ (c : Bool)
 known_after C at m accepted (Issue k generation tag cmdsn) id b comes is = fewer id _ _ b is (count-at _ k m.tasks)
 known_after C at m accepted (PduIn generation pdu) id b comes is = fewer id _ _ b is (count-if accepted _ m.tasks (count_heard C.tries at m.handler m.busy pdu.head pdu.payload m.tasks))
 known_after C at m accepted (Lost generation cause) id b comes is = fewer id _ _ b is (count-from _ 0 m.tasks)
-known_after C at m accepted (Tick reading) id b comes is = fewer id _ _ b is (count-if (is_overdue C.replacement reading m.phase) _ m.tasks (count-map _ m.tasks))
+known_after C at m accepted (Tick reading) id b comes is = fewer id _ _ b is (count-if (is_overdue C.replacement reading m.phase) _ m.tasks (length-map m.tasks _))
 known_after C at m accepted (Abort k) id b comes is = fewer id _ _ b is (count-at _ k m.tasks)
-known_after C at m accepted (Deliver count) id b comes is = fewer id _ _ b is (count-map _ m.tasks)
-known_after C at m accepted (Terminate cause) id b comes is = fewer id _ _ b is (count-map _ m.tasks)
+known_after C at m accepted (Deliver count) id b comes is = fewer id _ _ b is (length-map m.tasks _)
+known_after C at m accepted (Terminate cause) id b comes is = fewer id _ _ b is (length-map m.tasks _)
 known_after C at m accepted e id b comes is = is
 
 pub ids_in_order : (C : SessionConfig) (H : List Numbered) → ArePermitted C H → (id : ℕ) → was_submitted id H ≡ nat_lt id (length (meanings C H).tasks)

@@ -1,6 +1,5 @@
 -- A PDU of another connection changes nothing.
-use Rattle.std.proofs.Common.{◌≡◌, ◌∙◌, ℕ, ℤ, Bool, true, false, List, [], ◌∷◌, sym, refl, arith, append-nil, nat_eq, if◌then◌else◌}
-use Rattle.std.proofs.lemmas.Bool.Decides.{nat_tests}
+use Rattle.std.proofs.Common.{◌≡◌, ◌∙◌, ℕ, ℤ, Bool, true, false, List, [], ◌∷◌, sym, refl, append-nil, if◌then◌else◌}
 use Rattle.oi_history.specs.Courses.{given_up, is_at_once, is_overdue, phase_step}
 use Rattle.oi_history.specs.Locks.{is_task_response}
 use Rattle.oi_history.specs.Meanings.{Meanings, handed_so_far, meanings, step, tag_over, tags_over}
@@ -17,6 +16,7 @@ use Rattle.oi_history.specs.declared.phase.Phase.{Phase}
 use Rattle.oi_history.specs.declared.phase.Phase.TheVariants.{First, LoggedIn, Recovering, FailFast, Ended}
 use Rattle.oi_history.specs.declared.task.Task.{Task}
 use Rattle.oi_pdu.specs.declared.codec.Pdu.{Pdu}
+use Rattle.oi_session_laws.proofs.TagCounts.{other_test, same_test}
 use Rattle.oi_session_laws.specs.Generations.{retold}
 
 -- the connection of a session that is logged in is that of its last login
@@ -53,9 +53,6 @@ pub last_login : (C : SessionConfig) (H : List Numbered) → IsLast (meanings C 
 last_login C [] = tt
 last_login C (n ∷ H) = last_after C (meanings C H) n.event (last_login C H)
 
-other_test : (a b : ℕ) → (a ≡ b → ⊥) → nat_eq a b ≡ false
-other_test a b differs = grind (arith, nat_tests, differs)
-
 not_on : (generation g : ℕ) (p : Phase) → (generation ≡ g → ⊥) → IsLast g p → is_logged_in p generation ≡ false
 not_on generation g First differs is = refl
 not_on generation g (LoggedIn mine) differs is = other_test mine generation (λ same. differs (sym same ∙ is))
@@ -64,10 +61,7 @@ not_on generation g (FailFast since) differs is = refl
 not_on generation g (Ended cause) differs is = refl
 
 -- no tag ends where no submission changes
-same_test : (a : ℕ) → nat_eq a a ≡ true
-same_test a = grind (arith, nat_tests)
-
-none_over : (f : Fate) → tag_over f f ≡ []
+pub none_over : (f : Fate) → tag_over f f ≡ []
 none_over (Waiting tries) = refl
 none_over (Live generation tag tries) = rw (same_test tag.0) refl
 none_over (Done outcome at) = refl

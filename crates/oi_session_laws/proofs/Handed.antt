@@ -1,6 +1,5 @@
 -- A submission is handed out as often as it is told: at most once.
-use Rattle.std.proofs.Common.{◌≡◌, ◌<◌, ◌≤◌, ◌+◌, ◌∙◌, ◌&&◌, ◌||◌, ℕ, suc, zero, Bool, true, false, List, [], ◌∷◌, ◌++◌, length, map, ap, subst, sym, refl, arith, nat_lt}
-use Rattle.std.proofs.lemmas.Bool.Decides.{nat_tests}
+use Rattle.std.proofs.Common.{◌≡◌, ◌<◌, ◌≤◌, ◌+◌, ◌∙◌, ◌&&◌, ◌||◌, ℕ, suc, zero, Bool, true, false, List, [], ◌∷◌, ◌++◌, length, map, ap, subst, sym, refl, arith}
 use Rattle.oi_base.specs.Counts.{bit}
 use Rattle.oi_history.specs.Meanings.{Meanings, accepted_in, handed_in, handed_so_far, is_current_in, meanings}
 use Rattle.oi_history.specs.Permitted.{ArePermitted, IsNextCommand, StandsBehind}
@@ -22,7 +21,7 @@ use Rattle.oi_laws.proofs.Told.{AreSound, told_at}
 use Rattle.oi_laws.specs.Answers.{times}
 use Rattle.oi_session_laws.proofs.Counted.{ids_in_order}
 use Rattle.oi_session_laws.proofs.Ends.{ended_done, not_current, off, over_by_end}
-use Rattle.oi_session_laws.proofs.Moved.{AreMoved, AreNew, hands_out, moved_after}
+use Rattle.oi_session_laws.proofs.Moved.{AreMoved, AreNew, hands_out, lt_from_test, moved_after}
 use Rattle.oi_session_laws.specs.Answers.{hands_behind_end, is_handing, was_submitted}
 use Rattle.oi_session_laws.specs.Ends.{has_end, is_end}
 
@@ -113,9 +112,6 @@ pub at_most_once : (C : SessionConfig) (H : List Numbered) → ArePermitted C H 
 at_most_once C H legal id = let is = (handed C H legal).told id in let small = told_small id (meanings C H).tasks in omega (arith, is, small)
 
 -- where nothing is due
-
-lt_from_test : (a b : ℕ) → nat_lt a b ≡ true → a < b
-lt_from_test a b is = grind (arith, nat_tests)
 
 known : (C : SessionConfig) (H : List Numbered) (id : ℕ) → ArePermitted C H → was_submitted id H ≡ true → id < length (meanings C H).tasks
 known C H id legal is = lt_from_test id (length (meanings C H).tasks) (sym (ids_in_order C H legal id) ∙ is)

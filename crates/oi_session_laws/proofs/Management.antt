@@ -1,5 +1,5 @@
 -- Requests that are no commands get the management tags of their connection, one after another.
-use Rattle.std.proofs.Common.{◌≡◌, ◌∙◌, ◌≤◌, ◌<◌, ◌||◌, ◌&&◌, ◌⊎◌, inl, inr, ℕ, suc, zero, Bool, true, false, not, List, [], ◌∷◌, ◌++◌, length, ap, sym, subst, refl, arith, nat_eq, is_some, Option, Some, None, slice_get, if◌then◌else◌}
+use Rattle.std.proofs.Common.{◌≡◌, ◌∙◌, ◌≤◌, ◌<◌, ◌||◌, ◌&&◌, ◌⊎◌, inl, inr, ℕ, suc, zero, Bool, true, false, not, List, [], ◌∷◌, ◌++◌, length, length-append, ap, sym, subst, refl, arith, nat_eq, is_some, Option, Some, None, slice_get, if◌then◌else◌}
 use Rattle.oi_base.specs.Counts.{bit}
 use Rattle.oi_base.specs.Limits.{most_management_tags}
 use Rattle.oi_base.specs.TagLayout.{age_after, management_tag, reserved_tag}
@@ -139,11 +139,10 @@ are_given C (n ∷ H) legal = given_step C H n.event (given_tags H) legal.0.owed
 
 so_many : (age n : ℕ) → length (management_tags age n) ≡ n
 so_many age zero = refl
-so_many age (suc n) = one_more (management_tags age n) (record { 0 = management_tag age n }) ∙ ap suc (so_many age n)
-  where
-    one_more : (tags : List Tag) (t : Tag) → length (tags ++ t ∷ []) ≡ suc (length tags)
-    one_more [] t = refl
-    one_more (x ∷ tags) t = ap suc (one_more tags t)
+so_many age (suc n) =
+    let more = length-append (management_tags age n) (record { 0 = management_tag age n } ∷ []) in
+    let rest = so_many age n in
+    omega (arith, more, rest)
 
 pub given_in_order : (C : SessionConfig) (H : List Numbered) → ArePermitted C H
     → (given_tags H ≡ management_tags (age_after (meanings C H).generation) (length (given_tags H))) × (length (given_tags H) ≤ most_management_tags)

@@ -142,7 +142,7 @@ and_middle true true d is = refl
 and_middle true false d is = absurd cc
 and_middle false c d is = absurd cc
 
-lt_from_test : (a b : ℕ) → nat_lt a b ≡ true → a < b
+pub lt_from_test : (a b : ℕ) → nat_lt a b ≡ true → a < b
 lt_from_test a b is = grind (arith, nat_tests)
 
 waiting_row : (a k : ℕ) (hit : Hit) → MayWait a (Waiting k) (recovery_table (StandsWaiting k) hit a)

@@ -1,5 +1,5 @@
 -- Command numbers follow one another, inside the window.
-use Rattle.std.proofs.Common.{◌≡◌, ◌∙◌, ◌==◌, ◌||◌, ℕ, suc, Bool, true, false, List, [], ◌∷◌, ◌++◌, length, ap, subst, sym, refl, Option, Some, None, if◌then◌else◌}
+use Rattle.std.proofs.Common.{◌≡◌, ◌∙◌, ◌==◌, ◌||◌, ℕ, suc, Bool, true, false, List, [], ◌∷◌, ◌++◌, length, length-append, arith, ap, subst, sym, refl, Option, Some, None, if◌then◌else◌}
 use Rattle.oi_base.specs.Serials.{less, predecessor, successor}
 use Rattle.oi_history.specs.Acceptance.{numbers_of}
 use Rattle.oi_history.specs.Meanings.{Meanings, accepted_in, meanings}
@@ -33,8 +33,7 @@ heard_next true o w = told_next o w
 heard_next false o w = refl
 
 one_longer : (numbers : List ℕ) (n : ℕ) → length (numbers ++ n ∷ []) ≡ suc (length numbers)
-one_longer [] n = refl
-one_longer (m ∷ numbers) n = ap suc (one_longer numbers n)
+one_longer numbers n = let more = length-append numbers (n ∷ []) in omega (arith, more)
 
 one_sent : (first : ℕ) (numbers : List ℕ) (n : ℕ) (w : Window) → AreCounted first numbers w → n ≡ next_of w → numbers ++ n ∷ [] ≡ successive first (length (numbers ++ n ∷ []))
 one_sent first numbers n w p is =

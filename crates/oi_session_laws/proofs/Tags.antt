@@ -34,7 +34,7 @@ use Rattle.oi_recovery.specs.declared.stand.Next.{Next}
 use Rattle.oi_recovery.specs.declared.stand.Next.TheVariants.{Wait, Host}
 use Rattle.oi_recovery.specs.declared.stand.Stand.TheVariants.{Live as StandsLive}
 use Rattle.oi_session_laws.proofs.Ends.{end_all}
-use Rattle.oi_session_laws.proofs.Generations.{no_tags_over}
+use Rattle.oi_session_laws.proofs.Generations.{no_tags_over, none_over}
 use Rattle.oi_session_laws.proofs.Moved.{AreMoved, AreNew, moved_after, sendable_there, sendable_waits, takes}
 use Rattle.oi_session_laws.proofs.TagCounts.{allocations-append, copies-append, counted_first, decide, equal_from, holdings-append, holdings-fewer, other_bit, other_test, same_bit, same_test, without-other, without-same}
 use Rattle.oi_session_laws.specs.Tags.{holdings}
@@ -228,12 +228,7 @@ issue-over : (f : Task → Task) (id : ℕ) (ts : List Task) → ((t : Task) →
 issue-over f id [] waits = refl
 issue-over f zero (t ∷ ts) waits = rw (waiting_none_over t.fate (f t).fate (waits t refl)) (no_tags_over ts)
 issue-over f (suc id) (t ∷ ts) waits =
-    ap (λ (z : List Tag). z ++ tags_over ts (changed id f ts)) (no_tag_over t.fate) ∙ issue-over f id ts (λ x there. waits x there)
-  where
-    no_tag_over : (f : Fate) → tag_over f f ≡ []
-    no_tag_over (Waiting tries) = refl
-    no_tag_over (Live generation tag tries) = rw (same_test tag.0) refl
-    no_tag_over (Done outcome at) = refl
+    ap (λ (z : List Tag). z ++ tags_over ts (changed id f ts)) (none_over t.fate) ∙ issue-over f id ts (λ x there. waits x there)
 
 issue-lives : (generation : ℕ) (tag : Tag) (n id : ℕ) (ts : List Task) (t : Task) → slice_get ts id ≡ Some t → is_waiting t.fate ≡ true
     → lives n (changed id (issued generation tag) ts) ≡ lives n ts + bit (nat_eq tag.0 n)
