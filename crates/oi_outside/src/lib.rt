@@ -3,7 +3,11 @@
 #![tactic(auto)]
 
 mod calls;
+mod clock;
 mod failed;
+mod gate;
+mod history;
+mod list_clock;
 mod mem_sink;
 mod mem_source;
 mod mem_store;
@@ -14,7 +18,11 @@ mod store_error;
 #[cfg(test)]
 mod tests;
 
+pub use clock::Clock;
 pub use failed::Failed;
+pub use gate::{Gate, OpenGate, Place};
+pub use history::History;
+pub use list_clock::{GREATEST_READING, ListClock};
 pub use mem_sink::MemSink;
 pub use mem_source::MemSource;
 pub use mem_store::MemStore;
