@@ -2,7 +2,10 @@ pub mod Calls
 pub mod Clocks
 pub mod MemStores
 pub mod Memory
+pub mod Nets
 pub mod Pasts
+pub mod ReadLinks
 pub mod Records
 pub mod Stores
 pub mod Streams
+pub mod WriteLinks
