@@ -1,3 +1,4 @@
+pub mod MemLinks
 pub mod Records
 pub mod Stores
 pub mod Strings

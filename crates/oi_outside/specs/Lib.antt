@@ -1,5 +1,6 @@
 pub mod Calls
 pub mod Clocks
+pub mod MemLinks
 pub mod MemStores
 pub mod Memory
 pub mod Nets
