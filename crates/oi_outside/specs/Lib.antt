@@ -2,6 +2,7 @@ pub mod Calls
 pub mod Clocks
 pub mod MemLinks
 pub mod MemStores
+pub mod MemWrites
 pub mod Memory
 pub mod Nets
 pub mod Pasts
