@@ -1,4 +1,6 @@
 pub mod MemLinks
+pub mod MemNets
+pub mod Places
 pub mod Records
 pub mod Stores
 pub mod Strings

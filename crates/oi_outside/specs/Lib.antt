@@ -1,6 +1,7 @@
 pub mod Calls
 pub mod Clocks
 pub mod MemLinks
+pub mod MemNets
 pub mod MemStores
 pub mod MemWrites
 pub mod Memory

@@ -37,10 +37,10 @@ waits_at portal w = bytes_eq w.portal portal
 abbrev pub waiting_at : List ℕ → List Waiting → List ℕ
 waiting_at portal ws = map (λ w. w.dial) (filter (waits_at portal) ws)
 
--- the connections that wait, without the first one at the portal
-abbrev pub without_first : List ℕ → List Waiting → List Waiting
-without_first portal [] = []
-without_first portal (w ∷ ws) = if waits_at portal w then ws else w ∷ without_first portal ws
+-- the list without the first element that passes the test
+abbrev pub without_first : {X : Type 0} → (X → Bool) → List X → List X
+without_first test [] = []
+without_first test (x ∷ xs) = if test x then xs else x ∷ without_first test xs
 
 -- the connections that wait, where a dial adds its own at the end, or none
 abbrev pub with_dialled : Bool → List ℕ → ℕ → List Waiting → List Waiting
@@ -52,7 +52,7 @@ after_dial adds portal s = record s { dialled = s.dialled ++ portal ∷ []; wait
 
 -- a net after an accept at a portal that answered the link with this number
 abbrev pub after_accept : List ℕ → ℕ → NetState → NetState
-after_accept portal dial s = record s { accepted = s.accepted ++ dial ∷ []; waiting = without_first portal s.waiting }
+after_accept portal dial s = record s { accepted = s.accepted ++ dial ∷ []; waiting = without_first (waits_at portal) s.waiting }
 
 -- a net after a link was given back
 abbrev pub after_return : LinkName → Option ReadHalf → Option WriteHalf → NetState → NetState

@@ -12,14 +12,14 @@ use std::marker::Model;
 /// The reading half of a link over memory. Its calls are numbered from 0, and those whose number is listed fail.
 #[derive(Drop)]
 pub struct MemRead {
-    pub(crate) dial: u64,
-    pub(crate) accepted: bool,
-    pub(crate) pipe: PipeReader,
-    pub(crate) schedule: Schedule,
-    pub(crate) fails: Series<u64>,
-    pub(crate) calls: u64,
-    pub(crate) answers: History<ReadTurn>,
-    pub(crate) faults: u64,
+    dial: u64,
+    accepted: bool,
+    pipe: PipeReader,
+    schedule: Schedule,
+    fails: Series<u64>,
+    calls: u64,
+    answers: History<ReadTurn>,
+    faults: u64,
 }
 
 impl Model for MemRead {
@@ -32,6 +32,33 @@ impl Model for MemRead {
     ghost view = { λ h. record { dial = h.dial; accepted = h.accepted; pipe = h.pipe; schedule = h.schedule; fails = h.fails; answers = h.answers; faults = h.faults } };
 
     ghost invariant = { λ h. (h.calls ≡ told_long (length h.answers)) × (1 ≤ h.schedule.piece) };
+}
+
+impl MemRead {
+    ghost use Rattle.std.specs.Prelude.{◌≡◌, ◌≤◌, []};
+
+    /// The half of a new link, with this half of a pipe.
+    pub(crate) fn new(
+        dial: u64,
+        accepted: bool,
+        pipe: PipeReader,
+        schedule: Schedule,
+        fails: Series<u64>,
+    ) -> MemRead
+        requires { 1 ≤ schedule.piece }
+        ensures { result ≡ record { dial = dial; accepted = accepted; pipe = pipe; schedule = schedule; fails = fails; answers = []; faults = 0 } }
+    {
+        MemRead {
+            dial,
+            accepted,
+            pipe,
+            schedule,
+            fails,
+            calls: 0,
+            answers: History::new(),
+            faults: 0,
+        }
+    }
 }
 
 impl LinkRead for MemRead {

@@ -12,14 +12,14 @@ use std::marker::Model;
 /// The writing half of a link over memory. Its calls are numbered from 0, and those whose number is listed fail.
 #[derive(Drop)]
 pub struct MemWrite {
-    pub(crate) dial: u64,
-    pub(crate) accepted: bool,
-    pub(crate) pipe: PipeWriter,
-    pub(crate) schedule: Schedule,
-    pub(crate) fails: Series<u64>,
-    pub(crate) calls: u64,
-    pub(crate) answers: History<WriteTurn>,
-    pub(crate) faults: u64,
+    dial: u64,
+    accepted: bool,
+    pipe: PipeWriter,
+    schedule: Schedule,
+    fails: Series<u64>,
+    calls: u64,
+    answers: History<WriteTurn>,
+    faults: u64,
 }
 
 impl Model for MemWrite {
@@ -35,8 +35,31 @@ impl Model for MemWrite {
 }
 
 impl MemWrite {
-    ghost use Rattle.std.specs.Prelude.{◌≡◌};
+    ghost use Rattle.std.specs.Prelude.{◌≡◌, false, []};
     ghost use Rattle.oi_outside.specs.MemWrites.{closed};
+
+    /// The half of a new link, with this half of a pipe.
+    pub(crate) fn new(
+        dial: u64,
+        accepted: bool,
+        pipe: PipeWriter,
+        schedule: Schedule,
+        fails: Series<u64>,
+    ) -> MemWrite
+        requires { pipe.closed ≡ false }
+        ensures { result ≡ record { dial = dial; accepted = accepted; pipe = pipe; schedule = schedule; fails = fails; answers = []; faults = 0 } }
+    {
+        MemWrite {
+            dial,
+            accepted,
+            pipe,
+            schedule,
+            fails,
+            calls: 0,
+            answers: History::new(),
+            faults: 0,
+        }
+    }
 
     /// Closes the pipe. What it holds can still be read at the other end.
     pub(crate) fn close(self) -> ClosedWrite
