@@ -1,5 +1,5 @@
 -- Where an element stands that a search finds.
-use Rattle.std.proofs.Common.{ℕ, suc, Bool, true, false, cond, not, ◌+◌, ◌<◌, ◌≤◌, ◌≡◌, ◌∙◌, List, [], ◌∷◌, ◌++◌, length, take, drop, Option, Some, None, ◌⊎◌, inl, inr, refl, sym, ap, subst, arith}
+use Rattle.std.proofs.Common.{ℕ, suc, Bool, true, false, cond, not, ◌+◌, ◌<◌, ◌≤◌, ◌≡◌, ◌∙◌, List, [], ◌∷◌, length, Option, Some, None, inl, inr, refl, sym, ap, subst, arith}
 use Rattle.std.specs.Prelude.{nat_lt}
 use Rattle.std.specs.List.{find, position, position_or_len, remove, slice_get}
 use Rattle.std.proofs.lemmas.List.Folds.{find_at}
@@ -16,9 +16,10 @@ module _ {X : Type 0} (p : X → Bool) where
   pub find-no_place : (xs : List X) → position p xs ≡ None → find p xs ≡ None
   find-no_place xs e =
       elim (slice_get_cases xs (position_or_len p xs)).1 [
-        inl h ↦ (let held : nat_lt (position_or_len p xs) (length xs) ≡ true = lt-ltb (position_or_len p xs) (length xs) h.1 in
-          let bad : ◌≡◌ {A = Option ℕ} (Some (position_or_len p xs)) None = sym (ap (λ b. cond b (Some (position_or_len p xs)) None) held) ∙ e in cc)
-      | inr h ↦ find_at p xs ∙ h.1 ]
+        | inl h ↦ (let held : nat_lt (position_or_len p xs) (length xs) ≡ true = lt-ltb (position_or_len p xs) (length xs) h.1 in
+            let bad : ◌≡◌ {A = Option ℕ} (Some (position_or_len p xs)) None = sym (ap (λ b. cond b (Some (position_or_len p xs)) None) held) ∙ e in cc)
+        | inr h ↦ find_at p xs ∙ h.1
+      ]
 
   onward : (xs : List X) (x : X) (n : ℕ) → remove xs n ≡ without_first p xs → remove (x ∷ xs) (1 + n) ≡ x ∷ without_first p xs
   onward xs x n e = let next : 1 + n ≡ suc n = omega arith in ap (remove (x ∷ xs)) next ∙ ap (λ ys. x ∷ ys) e
@@ -44,8 +45,9 @@ module _ {X : Type 0} (p : X → Bool) where
       let n : ℕ = position_or_len p xs in
       let here : n ≡ i = is_first n i (nat_lt n (length xs)) e in
       elim (slice_get_cases xs n).1 [
-        inl h ↦ subst (StandsAt xs) here (record { element = h.0; found = find_at p xs ∙ h.2; inside = h.1; get = h.2; rest = remove-first xs h.1 })
-      | inr h ↦ absurd (past n (nat_lt n (length xs)) refl h.0 e) ]
+        | inl h ↦ subst (StandsAt xs) here (record { element = h.0; found = find_at p xs ∙ h.2; inside = h.1; get = h.2; rest = remove-first xs h.1 })
+        | inr h ↦ absurd (past n (nat_lt n (length xs)) refl h.0 e)
+      ]
     where
       past : (n : ℕ) (b : Bool) → nat_lt n (length xs) ≡ b → length xs ≤ n → cond b (Some n) None ≡ Some i → ⊥
       past n true t h k = let lt : n < length xs = ltb-true n (length xs) t in omega arith

@@ -1,8 +1,8 @@
 -- Links over memory: each is two pipes, one for each direction.
-use Rattle.std.specs.Prelude.{◌≡◌, ℕ, Bool, not, ◌&&◌, ◌==◌, ◌%◌, ◌<◌, ◌≤◌, List, [], ◌∷◌, ◌++◌, length, map, filter, Option, Some, None, MatchBool, if◌then◌else◌}
+use Rattle.std.specs.Prelude.{◌≡◌, ℕ, Bool, not, ◌&&◌, ◌==◌, ◌%◌, ◌≤◌, List, [], ◌∷◌, ◌++◌, length, map, filter, None, MatchBool}
 use Rattle.std.specs.List.{last_or}
 use Rattle.oi_base.specs.Counts.{told_long}
-use Rattle.oi_pipe.specs.Turns.{Reader, Writer, IsRead, IsWritten, new_reader, new_writer}
+use Rattle.oi_pipe.specs.Turns.{Reader, IsRead}
 use Rattle.oi_pipe.specs.declared.turn.PipeTurn.TheVariants.{Moved, NotYet as PipeNotYet, End as PipeEnd}
 use Rattle.oi_outside.specs.Calls.{one_more, is_to_fail}
 use Rattle.oi_outside.specs.declared.schedule.Schedule.{Schedule}

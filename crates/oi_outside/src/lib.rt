@@ -20,6 +20,8 @@ mod mem_store;
 mod mem_write;
 mod net;
 mod net_error;
+#[cfg(test)]
+mod net_tests;
 mod record_store;
 mod schedule;
 mod sink;

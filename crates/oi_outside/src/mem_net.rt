@@ -45,8 +45,17 @@ impl Model for MemNet {
     ghost Value = { MemNetwork };
 
     ghost view = { λ n. record {
-        schedule = n.schedule; fails = n.fails; link_fails = n.link_fails; calls = n.calls; faults = n.faults; accept_faults = n.accept_faults;
-        listens = n.listens.items; dialled = n.dialled; accepted = n.accepted; ends = n.waiting.items; returned = n.returned
+      schedule = n.schedule;
+      fails = n.fails;
+      link_fails = n.link_fails;
+      calls = n.calls;
+      faults = n.faults;
+      accept_faults = n.accept_faults;
+      listens = n.listens.items;
+      dialled = n.dialled;
+      accepted = n.accepted;
+      ends = n.waiting.items;
+      returned = n.returned;
     } };
 
     ghost invariant = { λ n. (n.dials ≡ length n.dialled) × (1 ≤ n.schedule.piece) };
@@ -67,8 +76,17 @@ impl MemNet {
     ) -> MemNet
         requires { 1 ≤ schedule.piece }
         ensures { result ≡ record {
-            schedule = schedule; fails = fails; link_fails = link_fails; calls = 0; faults = 0; accept_faults = 0;
-            listens = []; dialled = []; accepted = []; ends = []; returned = []
+          schedule = schedule;
+          fails = fails;
+          link_fails = link_fails;
+          calls = 0;
+          faults = 0;
+          accept_faults = 0;
+          listens = [];
+          dialled = [];
+          accepted = [];
+          ends = [];
+          returned = [];
         } }
     {
         MemNet {
