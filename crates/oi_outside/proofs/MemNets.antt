@@ -41,7 +41,7 @@ waiting-without_first portal (x ∷ xs) = by (is_at portal x) (waiting-without_f
     by true rest = refl
     by false rest = ap (λ ws. waiting_of x ∷ ws) rest
 
-same_Some : {X : Type 0} (x y : X) → Some x ≡ Some y → x ≡ y
+pub same_Some : {X : Type 0} (x y : X) → Some x ≡ Some y → x ≡ y
 same_Some x y e = ap (λ o. unwrap_or o x) e
 
 -- what a net tells of an accept

@@ -1,5 +1,6 @@
 pub mod Calls
 pub mod Clocks
+pub mod FarNets
 pub mod MemLinks
 pub mod MemNets
 pub mod MemStores

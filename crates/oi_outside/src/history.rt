@@ -50,4 +50,13 @@ impl<T> History<T> {
             last: Snapshot::of(item),
         };
     }
+
+    /// Puts what the items are now at the end, in their order.
+    pub fn record_all(&mut self, items: &[T])
+        ensures { self.new ≡ self.old ++ items.now }
+    {
+        for item in items {
+            self.record(item);
+        }
+    }
 }

@@ -5,6 +5,8 @@
 mod calls;
 mod clock;
 mod failed;
+mod far_link;
+mod far_net;
 mod gate;
 mod given_back;
 mod history;
@@ -33,6 +35,8 @@ mod waiting_end;
 
 pub use clock::Clock;
 pub use failed::Failed;
+pub use far_link::{FarRead, FarWrite};
+pub use far_net::FarNet;
 pub use gate::{Gate, OpenGate, Place};
 pub use history::History;
 pub use link_name::LinkName;

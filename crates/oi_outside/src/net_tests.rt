@@ -1,5 +1,5 @@
 use super::*;
-use oi_base::{Label, Series};
+use oi_base::{Blob, Label, Series};
 use std::alloc::Global;
 use std::process::Abort;
 use std::test::Fail;
@@ -246,6 +246,46 @@ fn gives_back<N: Net>(rt: &impl Abort, net: &mut N, here: &PortalText) {
 #[test]
 fn bytes_outlive_the_half_that_gave_them(rt: HostRuntime) -> Result<(), Fail> {
     gives_back(&rt, &mut net(rt.alloc()), &portal(rt.alloc())?);
+    Ok(())
+}
+
+fn reads_all<R: LinkRead>(rt: &impl Abort, read: &mut R) {
+    let mut buf = [0u8; 32];
+    assert_eq!(rt; read.read(&mut buf), ReadTurn::Got(16));
+    assert_eq!(rt; &buf[..16], b"0123456789abcdef".as_slice());
+    assert_eq!(rt; read.read(&mut buf), ReadTurn::Got(3));
+    assert_eq!(rt; &buf[..3], b"ghi".as_slice());
+    assert_eq!(rt; read.read(&mut buf), ReadTurn::End);
+    assert_eq!(rt; read.read(&mut buf), ReadTurn::End);
+}
+
+fn follows_scripts<N: Net>(rt: &impl Abort, net: &mut N, here: &PortalText) {
+    let (mut read, mut write) = dials(rt, net, here);
+    reads_all(rt, &mut read);
+    gives(rt, &mut write, b"abc");
+    let (mut read, write) = dials(rt, net, here);
+    takes(rt, &mut read, b"12");
+    answers(rt, &mut read, ReadTurn::End);
+    let (mut last, _write) = dials(rt, net, here);
+    answers(rt, &mut last, ReadTurn::End);
+    listens(rt, net, here);
+    nothing_waits(rt, net, here);
+    let name = LinkName {
+        sid: 1,
+        generation: 2,
+    };
+    net.give_back(name, read, write);
+}
+
+#[test]
+fn far_side_follows_scripts(rt: HostRuntime) -> Result<(), Fail> {
+    let alloc = rt.alloc();
+    let scripts = vec![in alloc;
+        Blob::from_slice(alloc, b"0123456789abcdefghi")?,
+        Blob::from_slice(alloc, b"12")?,
+    ]?;
+    let mut net = FarNet::new(alloc, Series::from_vec(scripts));
+    follows_scripts(&rt, &mut net, &portal(alloc)?);
     Ok(())
 }
 
