@@ -1,8 +1,7 @@
 -- Nets over the loopback interface.
-use Rattle.std.specs.Prelude.{◌≡◌, ℕ, false, List, [], ◌∷◌, ◌++◌, Result, Ok, Err}
+use Rattle.std.specs.Prelude.{ℕ, List, Result, Ok, Err}
 use Rattle.oi_outside.specs.declared.net_error.NetError.{NetError}
-use Rattle.oi_outside.specs.declared.net_error.NetError.TheVariants.{Failed}
-use Rattle.oi_outside.specs.MemNets.{is_listened, with_portal}
+use Rattle.oi_outside.specs.MemNets.{with_portal}
 
 -- a net over the loopback interface: the portals that it has a port for, and its two counts of faults
 pub record LoopPorts : Type 0 where

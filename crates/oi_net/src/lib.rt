@@ -1,6 +1,5 @@
 //! The real outside of the program: its standard streams, a folder of records, connections over the loopback
-//! interface and the system's clock. These objects tell no content; each
-//! counts the calls that failed.
+//! interface, and the system's clock. These objects tell no content; all but the clock count the calls that failed.
 #![tactic(auto)]
 
 mod folder;

@@ -1,5 +1,5 @@
 -- Nets whose far side follows scripts.
-use Rattle.std.proofs.Common.{ℕ, false, ◌≡◌, ◌∙◌, ◌+◌, ◌≤◌, List, [], ◌∷◌, ◌++◌, length, take, drop, Option, Some, refl, sym, ap, arith}
+use Rattle.std.proofs.Common.{ℕ, false, ◌≡◌, ◌∙◌, ◌+◌, List, [], ◌∷◌, ◌++◌, length, take, drop, Some, sym, ap, arith}
 use Rattle.std.proofs.Math.Seq.{take-add}
 use Rattle.std.proofs.lemmas.List.{take_all}
 use Rattle.std.proofs.lemmas.Grind.{common_steps}

@@ -1,5 +1,5 @@
 -- A net whose far side follows scripts of bytes.
-use Rattle.std.specs.Prelude.{◌≡◌, ℕ, false, ◌==◌, List, [], ◌∷◌, ◌++◌, length, take, drop, map, min, if◌then◌else◌, Some, None, Result, Ok, Err}
+use Rattle.std.specs.Prelude.{◌≡◌, ℕ, false, ◌==◌, List, [], ◌∷◌, ◌++◌, length, drop, map, min, if◌then◌else◌, Some, None, Result, Ok, Err}
 use Rattle.std.specs.List.{last_or}
 use Rattle.oi_outside.specs.declared.link_read.ReadTurn.{ReadTurn}
 use Rattle.oi_outside.specs.declared.link_read.ReadTurn.TheVariants.{Got, End}

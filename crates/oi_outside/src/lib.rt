@@ -1,5 +1,6 @@
-//! The outside of the program: the traits through which it reads and writes, each with a count of faults and, where
-//! the object tells it, its content; and implementations over memory.
+//! The outside of the program: the traits through which it reads and writes, keeps records, reaches other ends and reads
+//! the time. Those that can fail have a count of faults, and each tells its content where the object tells it. Beside
+//! them stand implementations over memory.
 #![tactic(auto)]
 
 mod calls;
