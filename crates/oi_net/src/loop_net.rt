@@ -79,7 +79,7 @@ impl<R: Sockets<Listener = TcpListener, Stream = TcpStream> + AllocGlobal + Drop
     for LoopNet<R> {
     ghost use Rattle.std.specs.Prelude.{◌≡◌, false, Option, Ok, Err, None, IfOk, OnErr, MatchOption};
     ghost use Rattle.oi_outside.specs.declared.net_error.NetError.TheVariants.{Failed};
-    ghost use Rattle.oi_outside.specs.Nets.{NetState, Dials, Accepts, NoneWaits, IsNetCounted};
+    ghost use Rattle.oi_outside.specs.Nets.{NetState, Dials, Accepts, NoneWaits, AreDialled, IsNetCounted};
     ghost use Rattle.oi_outside.specs.MemNets.{is_listened};
     ghost use Rattle.oi_net.specs.Loops.{portals_after};
 
@@ -115,6 +115,7 @@ impl<R: Sockets<Listener = TcpListener, Stream = TcpStream> + AllocGlobal + Drop
     }
 
     fn dial(&mut self, portal: &PortalText) -> Result<(LoopRead, LoopWrite), NetError>
+        ensures known { AreDialled None }
         ensures link { IfOk result (λ link. Dials None None portal.now None None) }
         ensures fresh { IfOk result (λ link. (link.0.faults ≡ 0) × (link.1.faults ≡ 0)) }
         ensures err { OnErr result (◌≡◌ {A = Option NetState} None None) }
@@ -133,6 +134,7 @@ impl<R: Sockets<Listener = TcpListener, Stream = TcpStream> + AllocGlobal + Drop
     }
 
     fn accept(&mut self, portal: &PortalText) -> Result<Option<(LoopRead, LoopWrite)>, NetError>
+        ensures known { AreDialled None }
         ensures link { IfOk result (λ o. MatchOption o
             (NoneWaits portal.now None × (◌≡◌ {A = Option NetState} None None))
             (λ link. Accepts None None portal.now None None)) }

@@ -1,10 +1,11 @@
 -- Calls of nets over memory.
-use Rattle.std.proofs.Common.{ℕ, Bool, true, false, cond, ◌≡◌, ◌∙◌, List, [], ◌∷◌, ◌++◌, map, filter, Option, Some, None, refl, sym, ap, subst}
+use Rattle.std.proofs.Common.{ℕ, suc, Bool, true, false, cond, ◌+◌, ◌<◌, length, get_or, take, drop, arith, ◌≡◌, ◌∙◌, List, [], ◌∷◌, ◌++◌, map, filter, Option, Some, None, refl, sym, ap, subst}
 use Rattle.std.specs.Prelude.{MatchOption}
-use Rattle.std.specs.List.{find, position}
+use Rattle.std.specs.List.{All, find, position, remove}
+use Rattle.std.proofs.lemmas.List.Elements.{All-append, All-drop, All-map, All-push, All-same, All-take}
 use Rattle.std.specs.Option.{unwrap_or}
 use Rattle.oi_pipe.specs.Turns.{Reader, Writer}
-use Rattle.oi_outside.specs.Nets.{NetState, Waiting, Accepts, NoneWaits, waits_at, waiting_at, without_first}
+use Rattle.oi_outside.specs.Nets.{NetState, Waiting, Accepts, AreDialled, NoneWaits, waits_at, waiting_at, without_first}
 use Rattle.oi_outside.specs.MemLinks.{ReadingEnd, read_half}
 use Rattle.oi_outside.specs.MemWrites.{WritingEnd, write_half}
 use Rattle.oi_outside.specs.MemNets.{FarEnd, MemNetwork, FindsNone, IsPlaceAt, TakesEnd, called, is_at, mem_state, waiting_of}
@@ -66,3 +67,19 @@ told portal s t (Some link) h = record {
 
 pub accept_told : (portal : List ℕ) (s numbered t : MemNetwork) (o : Option (ReadingEnd × WritingEnd)) → numbered ≡ called s → MatchOption o (FindsNone portal numbered t) (λ link. TakesEnd portal numbered t link.0 link.1) → MatchOption o (NoneWaits portal (Some (mem_state s)) × (Some (mem_state t) ≡ Some (mem_state s))) (λ link. Accepts (Some (read_half link.0)) (Some (write_half link.1)) portal (Some (mem_state s)) (Some (mem_state t)))
 accept_told portal s numbered t o e h = told portal s t o (subst (λ (n : MemNetwork). MatchOption o (FindsNone portal n t) (λ link. TakesEnd portal n t link.0 link.1)) e h)
+
+-- the numbers that wait at a net over memory are those of its dials
+pub known_told : (s : MemNetwork) → All (λ (e : FarEnd). e.dial < length s.dialled) s.ends → AreDialled (Some (mem_state s))
+known_told s h u e =
+    subst (λ (v : NetState). All (λ (w : Waiting). w.dial < length v.dialled) v.waiting) (same_Some (mem_state s) u e)
+    (All-map (λ (w : Waiting). w.dial < length s.dialled) waiting_of s.ends h)
+
+-- with one dial more, and its end among those that wait
+pub known_more : (n m : ℕ) (es fs : List FarEnd) (e : FarEnd) → All (λ (x : FarEnd). x.dial < n) es → e.dial ≡ n → m ≡ n + 1 → fs ≡ es ++ e ∷ [] → All (λ (x : FarEnd). x.dial < m) fs
+known_more n m es fs e h is more pushed =
+    All-same (λ (x : FarEnd). x.dial < m) _ _ pushed (All-push (λ (x : FarEnd). x.dial < m) es e (λ k d lt. let low : (get_or es k d).dial < n = h k d lt in omega arith) (omega arith))
+
+-- with one end fewer
+pub known_rest : (n at : ℕ) (es fs : List FarEnd) → All (λ (x : FarEnd). x.dial < n) es → fs ≡ remove es at → All (λ (x : FarEnd). x.dial < n) fs
+known_rest n at es fs h rest =
+    All-same (λ (x : FarEnd). x.dial < n) _ _ rest (All-append (λ (x : FarEnd). x.dial < n) (take at es) (drop (suc at) es) (All-take (λ (x : FarEnd). x.dial < n) at es h) (All-drop (λ (x : FarEnd). x.dial < n) (suc at) es h))

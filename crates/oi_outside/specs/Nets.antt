@@ -1,5 +1,6 @@
 -- What a net tells, and what its calls answer.
-use Rattle.std.specs.Prelude.{◌≡◌, ℕ, Bool, true, false, List, [], ◌∷◌, ◌++◌, length, map, filter, if◌then◌else◌, Option, Some, Result, Ok, Err}
+use Rattle.std.specs.Prelude.{◌≡◌, ◌<◌, ℕ, Bool, true, false, List, [], ◌∷◌, ◌++◌, length, map, filter, if◌then◌else◌, Option, Some, Result, Ok, Err}
+use Rattle.std.specs.List.{All}
 use Rattle.std.specs.Option.{option_map}
 use Rattle.std.specs.Str.{bytes_eq}
 use Rattle.oi_base.specs.Counts.{Rose}
@@ -74,6 +75,10 @@ pub record Accepts (read : Option ReadHalf) (write : Option WriteHalf) (portal :
   pub read_half : read ≡ option_map (λ s. new_read_half dial true) old
   pub write_half : write ≡ option_map (λ s. new_write_half dial true) old
   pub net : new ≡ option_map (after_accept portal dial) old
+
+-- where the net tells, the numbers that wait are those of dials
+abbrev pub AreDialled : Option NetState → Type 0
+AreDialled o = (s : NetState) → o ≡ Some s → All (λ w. w.dial < length s.dialled) s.waiting
 
 -- where the net tells, no connection waits at the portal
 abbrev pub NoneWaits : List ℕ → Option NetState → Type 0

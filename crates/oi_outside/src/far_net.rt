@@ -65,7 +65,7 @@ fn take_script(alloc: Global, scripts: &mut VecDeque<Blob>) -> Blob
 impl Net for FarNet {
     ghost use Rattle.std.specs.Prelude.{◌≡◌, Some, IfOk, IsNone, IsOk, OnErr, MatchOption};
     ghost use Rattle.std.specs.Option.{option_map};
-    ghost use Rattle.oi_outside.specs.Nets.{after_return, Dials, Accepts, NoneWaits, IsNetCounted};
+    ghost use Rattle.oi_outside.specs.Nets.{after_return, Dials, Accepts, NoneWaits, AreDialled, IsNetCounted};
     ghost use Rattle.oi_outside.specs.FarNets.{far_read_half, far_write_half, far_state, after_far_return, no_faults, IsFarDialled};
 
     type Read = FarRead;
@@ -89,6 +89,7 @@ impl Net for FarNet {
     }
 
     fn dial(&mut self, portal: &PortalText) -> Result<(FarRead, FarWrite), NetError>
+        ensures known { AreDialled (Some (far_state self.old)) }
         ensures link { IfOk result (λ link. Dials (Some (far_read_half link.0)) (Some (far_write_half link.1)) portal.now (Some (far_state self.old)) (Some (far_state self.new))) }
         ensures fresh { IfOk result (λ link. (no_faults ≡ 0) × (no_faults ≡ 0)) }
         ensures err { OnErr result (Some (far_state self.new) ≡ Some (far_state self.old)) }
@@ -105,6 +106,7 @@ impl Net for FarNet {
 
     #[tactic(auto, using(crate::proofs::FarNets::none_waits))]
     fn accept(&mut self, portal: &PortalText) -> Result<Option<(FarRead, FarWrite)>, NetError>
+        ensures known { AreDialled (Some (far_state self.old)) }
         ensures link { IfOk result (λ o. MatchOption o
             (NoneWaits portal.now (Some (far_state self.old)) × (Some (far_state self.new) ≡ Some (far_state self.old)))
             (λ link. Accepts (Some (far_read_half link.0)) (Some (far_write_half link.1)) portal.now (Some (far_state self.old)) (Some (far_state self.new)))) }

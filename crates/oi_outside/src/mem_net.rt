@@ -39,7 +39,7 @@ pub struct MemNet {
 }
 
 impl Model for MemNet {
-    ghost use Rattle.std.specs.Prelude.{◌≡◌, ◌≤◌, length};
+    ghost use Rattle.std.specs.Prelude.{◌≡◌, ◌<◌, ◌≤◌, length, All};
     ghost use Rattle.oi_outside.specs.MemNets.{MemNetwork};
 
     ghost Value = { MemNetwork };
@@ -58,14 +58,15 @@ impl Model for MemNet {
       returned = n.returned;
     } };
 
-    ghost invariant = { λ n. (n.dials ≡ length n.dialled) × (1 ≤ n.schedule.piece) };
+    ghost invariant = { λ n. (n.dials ≡ length n.dialled) × (1 ≤ n.schedule.piece) × All (λ e. e.dial < length n.dialled) n.waiting.items };
 }
 
 impl MemNet {
-    ghost use Rattle.std.specs.Prelude.{◌≡◌, ◌≤◌, [], IfOk, OnErr, OnOk, MatchOption};
+    ghost use Rattle.std.specs.Prelude.{◌≡◌, ◌≤◌, [], IfOk, OnErr, OnOk, MatchOption, Some};
     ghost use Rattle.oi_outside.specs.declared.net_error.NetError.TheVariants.{Failed};
     ghost use Rattle.oi_outside.specs.Calls.{one_more};
-    ghost use Rattle.oi_outside.specs.MemNets.{MemNetwork, Connects, TakesEnd, FindsNone, called, is_failing, with_portal};
+    ghost use Rattle.oi_outside.specs.Nets.{AreDialled};
+    ghost use Rattle.oi_outside.specs.MemNets.{MemNetwork, Connects, TakesEnd, FindsNone, called, is_failing, mem_state, with_portal};
 
     /// A network without links, which holds each link up by the schedule; takes no memory.
     pub fn new(
@@ -109,6 +110,7 @@ impl MemNet {
     // Numbers a call, and answers whether it is one that fails.
     fn takes_failing_number(&mut self) -> bool
         ensures fails { result ≡ is_failing self.old }
+        ensures known { AreDialled (Some (mem_state self.old)) }
         ensures after { self.new ≡ called self.old }
     {
         let call = self.calls;
@@ -206,7 +208,7 @@ impl MemNet {
 impl Net for MemNet {
     ghost use Rattle.std.specs.Prelude.{◌≡◌, ◌||◌, not, Some, IfOk, OnErr, MatchOption};
     ghost use Rattle.std.specs.Option.{option_map};
-    ghost use Rattle.oi_outside.specs.Nets.{after_return, net_failed, Dials, Accepts, NoneWaits, IsNetCounted};
+    ghost use Rattle.oi_outside.specs.Nets.{after_return, net_failed, Dials, Accepts, NoneWaits, AreDialled, IsNetCounted};
     ghost use Rattle.oi_outside.specs.MemLinks.{read_half};
     ghost use Rattle.oi_outside.specs.MemWrites.{write_half};
     ghost use Rattle.oi_outside.specs.MemNets.{mem_state, after_listen, after_give_back, is_failing, is_listened, IsDialled, IsAccepted};
@@ -235,6 +237,7 @@ impl Net for MemNet {
     }
 
     fn dial(&mut self, portal: &PortalText) -> Result<(MemRead, MemWrite), NetError>
+        ensures known { AreDialled (Some (mem_state self.old)) }
         ensures link { IfOk result (λ link. Dials (Some (read_half link.0)) (Some (write_half link.1)) portal.now (Some (mem_state self.old)) (Some (mem_state self.new))) }
         ensures fresh { IfOk result (λ link. (link.0.faults ≡ 0) × (link.1.faults ≡ 0)) }
         ensures err { OnErr result (Some (mem_state self.new) ≡ Some (mem_state self.old)) }
@@ -253,6 +256,7 @@ impl Net for MemNet {
     }
 
     fn accept(&mut self, portal: &PortalText) -> Result<Option<(MemRead, MemWrite)>, NetError>
+        ensures known { AreDialled (Some (mem_state self.old)) }
         ensures link { IfOk result (λ o. MatchOption o
             (NoneWaits portal.now (Some (mem_state self.old)) × (Some (mem_state self.new) ≡ Some (mem_state self.old)))
             (λ link. Accepts (Some (read_half link.0)) (Some (write_half link.1)) portal.now (Some (mem_state self.old)) (Some (mem_state self.new)))) }

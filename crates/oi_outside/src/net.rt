@@ -11,7 +11,7 @@ pub type PortalText = Label;
 pub trait Net {
     ghost use Rattle.std.specs.Prelude.{◌≡◌, ◌∷◌, ℕ, Option, IfOk, OnErr, MatchOption};
     ghost use Rattle.std.specs.Option.{option_map};
-    ghost use Rattle.oi_outside.specs.Nets.{NetState, after_return, Dials, Accepts, NoneWaits, IsNetCounted};
+    ghost use Rattle.oi_outside.specs.Nets.{NetState, after_return, Dials, Accepts, NoneWaits, AreDialled, IsNetCounted};
 
     /// The reading half of a link. A worker may own it.
     type Read: LinkRead + Send + Drop;
@@ -37,6 +37,7 @@ pub trait Net {
 
     /// Connects to the portal. The links that dials answer are numbered from 0.
     fn dial(&mut self, portal: &PortalText) -> Result<(Self::Read, Self::Write), NetError>
+        ensures known { AreDialled (state self.old) }
         ensures link { IfOk result (λ link. Dials (Self.Read.half link.0) (Self.Write.half link.1) portal.now (state self.old) (state self.new)) }
         ensures fresh { IfOk result (λ link. (Self.Read.faults link.0 ≡ 0) × (Self.Write.faults link.1 ≡ 0)) }
         ensures err { OnErr result (state self.new ≡ state self.old) }
@@ -45,6 +46,7 @@ pub trait Net {
 
     /// Takes the first of the dialled connections that wait at the portal, if there is one.
     fn accept(&mut self, portal: &PortalText) -> Result<Option<(Self::Read, Self::Write)>, NetError>
+        ensures known { AreDialled (state self.old) }
         ensures link { IfOk result (λ o. MatchOption o
             (NoneWaits portal.now (state self.old) × (state self.new ≡ state self.old))
             (λ link. Accepts (Self.Read.half link.0) (Self.Write.half link.1) portal.now (state self.old) (state self.new))) }
