@@ -1,6 +1,15 @@
 pub mod Calls
+pub mod Clocks
+pub mod FarNets
+pub mod MemLinks
+pub mod MemNets
 pub mod MemStores
+pub mod MemWrites
 pub mod Memory
+pub mod Nets
+pub mod Pasts
+pub mod ReadLinks
 pub mod Records
 pub mod Stores
 pub mod Streams
+pub mod WriteLinks

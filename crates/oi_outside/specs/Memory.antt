@@ -1,6 +1,5 @@
 -- Sources and sinks over memory.
-use Rattle.std.specs.Prelude.{ℕ, List, ◌++◌, ◌-◌, ◌==◌, Result, Ok, Err, length, take, drop, min, if◌then◌else◌}
-use Rattle.oi_outside.specs.declared.failed.Failed.{Failed}
+use Rattle.std.specs.Prelude.{ℕ, List, ◌++◌, ◌-◌, ◌==◌, length, take, drop, min, if◌then◌else◌}
 use Rattle.oi_outside.specs.Calls.{one_more, is_to_fail}
 
 -- a source over memory: what is left, the number of its next call, the numbers of the calls that fail, and how many did
