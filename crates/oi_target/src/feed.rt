@@ -23,6 +23,18 @@ fn place_of(links: &[Link], connection: u32) -> usize
         .count()
 }
 
+fn remove_link(links: &mut Vec<Link>, connection: u32) -> Option<Link>
+    ensures links { links.new.items ≡ without connection links.old.items }
+    ensures link { result ≡ link_of connection links.old.items }
+{
+    let at = place_of(links.as_slice(), connection);
+    if at < links.len() {
+        Some(links.remove(at))
+    } else {
+        None
+    }
+}
+
 // Cuts a piece into PDUs, and tells whether a malformed one follows them.
 fn cut(splitter: &mut Splitter, piece: &[u8], pdus: &mut Vec<Pdu>) -> Result<bool, NoMemory>
     requires { pdus.old.items ≡ [] }
@@ -70,12 +82,7 @@ impl Target {
         ensures links { self.new ≡ with_links self.old (without connection self.old.links) }
         ensures link { result ≡ link_of connection self.old.links }
     {
-        let at = place_of(&self.links, connection);
-        if at < self.links.len() {
-            Some(self.links.remove(at))
-        } else {
-            None
-        }
+        remove_link(&mut self.links, connection)
     }
 
     fn put_back(
@@ -95,12 +102,7 @@ impl Target {
     }
 
     // The bytes of a connection that was taken out, cut into PDUs.
-    fn serve_bytes(
-        &mut self,
-        link: Link,
-        piece: &[u8],
-        out: &mut Vec<u8>,
-    ) -> Result<Fed, NoMemory>
+    fn serve_bytes(&mut self, link: Link, piece: &[u8], out: &mut Vec<u8>) -> Result<Fed, NoMemory>
         requires { out.old.items ≡ [] }
         ensures { IfOk result (λ fed. (sent : List Pdu) × IsServed self.old link piece.now self.new sent fed × (out.new.items ≡ wire sent)) }
     {

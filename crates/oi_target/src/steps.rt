@@ -1,4 +1,4 @@
-ghost use Rattle.std.specs.Prelude.{◌≡◌, ◌++◌, bytes_eq, map, IfOk, OnOk};
+ghost use Rattle.std.specs.Prelude.{◌≡◌, ◌++◌, [], bytes_eq, map, IfOk, OnOk};
 ghost use Rattle.oi_target.specs.Feeding.{wire};
 ghost use Rattle.oi_target.specs.Steps.{Step, logged_in, logged_in_by, opening, served_as, stepped, steps, with_words};
 ghost use Rattle.oi_target.specs.Targets.{ended_by, ended_standing, limits_of, next_handle, nexus_of, reset_link, reset_links, reset_standing, session_of, with_links};
@@ -150,12 +150,7 @@ impl Target {
     }
 
     // A PDU of a session.
-    fn serve(
-        &mut self,
-        serving: Serving,
-        pdu: Pdu,
-        out: &mut Vec<u8>,
-    ) -> Result<Outcome, NoMemory>
+    fn serve(&mut self, serving: Serving, pdu: Pdu, out: &mut Vec<u8>) -> Result<Outcome, NoMemory>
         ensures target { OnOk result (self.new ≡ (stepped self.old (Standing.Serving serving) pdu).target) }
         ensures standing { IfOk result (λ o. o.standing ≡ (stepped self.old (Standing.Serving serving) pdu).standing) }
         ensures fed { IfOk result (λ o. o.fed ≡ (stepped self.old (Standing.Serving serving) pdu).fed) }
@@ -185,12 +180,7 @@ impl Target {
     }
 
     // One PDU of a connection that was taken out.
-    fn step(
-        &mut self,
-        standing: Standing,
-        pdu: Pdu,
-        out: &mut Vec<u8>,
-    ) -> Result<Outcome, NoMemory>
+    fn step(&mut self, standing: Standing, pdu: Pdu, out: &mut Vec<u8>) -> Result<Outcome, NoMemory>
         ensures target { OnOk result (self.new ≡ (stepped self.old standing pdu).target) }
         ensures standing { IfOk result (λ o. o.standing ≡ (stepped self.old standing pdu).standing) }
         ensures fed { IfOk result (λ o. o.fed ≡ (stepped self.old standing pdu).fed) }

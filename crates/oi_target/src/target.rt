@@ -1,3 +1,6 @@
+ghost use Rattle.std.specs.Prelude.{◌≡◌};
+ghost use Rattle.oi_target.specs.Targets.{stream_of};
+
 use crate::config::TargetConfig;
 use crate::link::{Link, Standing};
 use oi_base::{NoMemory, Series};
@@ -46,7 +49,7 @@ impl Model for Target {
 }
 
 fn stream_of(chap: &Option<ChapConfig>) -> u64
-    ensures { result ≡ Rattle.oi_target.specs.Targets.stream_of chap.now }
+    ensures { result ≡ stream_of chap.now }
 {
     match chap {
         None => 0,
@@ -55,7 +58,7 @@ fn stream_of(chap: &Option<ChapConfig>) -> u64
 }
 
 impl Target {
-    ghost use Rattle.std.specs.Prelude.{◌≡◌, ◌≤◌, IfOk, All, length};
+    ghost use Rattle.std.specs.Prelude.{◌≤◌, IfOk, All, length};
     ghost use Rattle.oi_disk.specs.Disks.{least_disk, most_disk};
     ghost use Rattle.oi_target.specs.Feeding.{Connects};
     ghost use Rattle.oi_target.specs.Targets.{new_target, with_links, without};

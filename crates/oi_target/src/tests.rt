@@ -47,7 +47,12 @@ fn config(alloc: Global, chap: Option<ChapConfig>) -> Result<TargetConfig, Fail>
 }
 
 // A PDU: its first two bytes, some words of its header by their places, and its data.
-fn pdu(alloc: Global, first: [u8; 2], words: &[(usize, u32)], data: &[u8]) -> Result<Vec<u8>, Fail> {
+fn pdu(
+    alloc: Global,
+    first: [u8; 2],
+    words: &[(usize, u32)],
+    data: &[u8],
+) -> Result<Vec<u8>, Fail> {
     let mut head = [0u8; 48];
     head[0] = first[0];
     head[1] = first[1];
@@ -117,11 +122,27 @@ impl Bench {
 }
 
 // A command: its tag, its number, the first bytes of its CDB, R or W, its expected length and its immediate data.
-fn command(alloc: Global, tag: u32, number: u32, cdb: (u32, u32, u32), flags: u8, length: u32, data: &[u8]) -> Result<Vec<u8>, Fail> {
+fn command(
+    alloc: Global,
+    tag: u32,
+    number: u32,
+    cdb: (u32, u32, u32),
+    flags: u8,
+    length: u32,
+    data: &[u8],
+) -> Result<Vec<u8>, Fail> {
     pdu(
         alloc,
         [0x01, flags],
-        &[(16, tag), (20, length), (24, number), (28, 3), (32, cdb.0), (36, cdb.1), (40, cdb.2)],
+        &[
+            (16, tag),
+            (20, length),
+            (24, number),
+            (28, 3),
+            (32, cdb.0),
+            (36, cdb.1),
+            (40, cdb.2),
+        ],
         data,
     )
 }
@@ -157,12 +178,18 @@ fn target_answers_capacity(rt: HostRuntime) -> Result<(), Fail> {
         assert_eq!(rt; bench.meets(1, &bytes, size)?, Fed::Going);
         let out = bench.out.as_slice();
         assert!(rt; 48 <= out.len());
-        assert_eq!(rt; (out[0], out[1], out[27], out[31], out[35]), (0x23, 0x81, 1, 1, 32));
+        assert_eq!(rt;
+            (out[0], out[1], out[27], out[31], out[35]),
+            (0x23, 0x81, 1, 1, 32)
+        );
         let bytes = request(a, 0x87, 1, NOTHING)?;
         assert_eq!(rt; bench.meets(1, &bytes, size)?, Fed::Going);
         let out = bench.out.as_slice();
         assert!(rt; 48 <= out.len());
-        assert_eq!(rt; (out[0], out[1], out[27], out[31], out[35]), (0x23, 0x87, 2, 1, 32));
+        assert_eq!(rt;
+            (out[0], out[1], out[27], out[31], out[35]),
+            (0x23, 0x87, 2, 1, 32)
+        );
         assert!(rt; out[15] != 0);
         let bytes = command(a, 0, 1, CAPACITY, 0xc1, 8, NOTHING)?;
         assert_eq!(rt; bench.meets(1, &bytes, size)?, Fed::Going);
@@ -208,7 +235,10 @@ fn a_write_by_two_asks(rt: HostRuntime) -> Result<(), Fail> {
     assert_eq!(rt; bench.meets(1, &bytes, 100_000)?, Fed::Going);
     let out = bench.out.as_slice();
     assert_eq!(rt; out.len(), 48);
-    assert_eq!(rt; (out[0], out[1], out[2], out[3], out[39]), (0x21, 0x80, 0, 0, 2));
+    assert_eq!(rt;
+        (out[0], out[1], out[2], out[3], out[39]),
+        (0x21, 0x80, 0, 0, 2)
+    );
     Ok(())
 }
 
@@ -229,7 +259,10 @@ fn a_read_of_two_sequences(rt: HostRuntime) -> Result<(), Fail> {
         (196_752, 0x80, 3),
         (262_336, 0x81, 4),
     ] {
-        assert_eq!(rt; (out[place], out[place + 1], out[place + 39]), (0x25, flags, number));
+        assert_eq!(rt;
+            (out[place], out[place + 1], out[place + 39]),
+            (0x25, flags, number)
+        );
     }
     Ok(())
 }
@@ -303,9 +336,13 @@ fn a_discovery(rt: HostRuntime) -> Result<(), Fail> {
     let bytes = text(a, 1, 0xffff_ffff, b"SendTargets=All\0")?;
     assert_eq!(rt; bench.meets(1, &bytes, 5)?, Fed::Going);
     let out = bench.out.as_slice();
-    let listed = b"TargetName=iqn.2024-01.org.example:d1\0TargetAddress=127.0.0.1:3260,1\0TargetName=iqn.2024-01.org.example:d2\0TargetAddress=127.0.0.1:3260,1\0";
+    let listed =
+        b"TargetName=iqn.2024-01.org.example:d1\0TargetAddress=127.0.0.1:3260,1\0TargetName=iqn.2024-01.org.example:d2\0TargetAddress=127.0.0.1:3260,1\0";
     assert!(rt; 48 + listed.len() <= out.len());
-    assert_eq!(rt; (out[0], out[1], out[19], out[20], out[31]), (0x24, 0x80, 1, 0xff, 2));
+    assert_eq!(rt;
+        (out[0], out[1], out[19], out[20], out[31]),
+        (0x24, 0x80, 1, 0xff, 2)
+    );
     assert_eq!(rt; &out[48..48 + listed.len()], listed.as_slice());
     bench.target.list(Series::new(a));
     let bytes = text(a, 2, 0xffff_ffff, b"SendTargets=All\0")?;
@@ -351,28 +388,100 @@ fn hostile_inputs(rt: HostRuntime) -> Result<(), Fail> {
     let a = rt.alloc();
     let big = bytes_of(a, 65_537)?;
     for (bytes, fed, written) in [
-        (command(a, 5, 2, CAPACITY, 0xc1, 8, NOTHING)?, Fed::Closed, 0),
-        (command(a, 6, 1, CAPACITY, 0xc1, 8, NOTHING)?, Fed::Closed, 0),
-        (command(a, 6, 34, CAPACITY, 0xc1, 8, NOTHING)?, Fed::Closed, 0),
-        (command(a, 6, 33, CAPACITY, 0xc1, 8, NOTHING)?, Fed::Going, 0),
+        (
+            command(a, 5, 2, CAPACITY, 0xc1, 8, NOTHING)?,
+            Fed::Closed,
+            0,
+        ),
+        (
+            command(a, 6, 1, CAPACITY, 0xc1, 8, NOTHING)?,
+            Fed::Closed,
+            0,
+        ),
+        (
+            command(a, 6, 34, CAPACITY, 0xc1, 8, NOTHING)?,
+            Fed::Closed,
+            0,
+        ),
+        (
+            command(a, 6, 33, CAPACITY, 0xc1, 8, NOTHING)?,
+            Fed::Going,
+            0,
+        ),
         (command(a, 6, 2, CAPACITY, 0xc1, 8, b"x")?, Fed::Closed, 0),
         (command(a, 6, 2, WRITE, 0xa1, 4, b"five!")?, Fed::Closed, 0),
-        (command(a, 6, 2, WRITE, 0xa1, 300_032, &big)?, Fed::Closed, 0),
-        (command(a, 6, 2, WRITE, 0xa1, 300_032, &big[1..])?, Fed::Going, 48),
+        (
+            command(a, 6, 2, WRITE, 0xa1, 300_032, &big)?,
+            Fed::Closed,
+            0,
+        ),
+        (
+            command(a, 6, 2, WRITE, 0xa1, 300_032, &big[1..])?,
+            Fed::Going,
+            48,
+        ),
         (data_out(a, 5, 2, 0, b"data")?, Fed::Closed, 0),
         (data_out(a, 5, 1, 8, b"data")?, Fed::Closed, 0),
         (data_out(a, 6, 9, 7, b"data")?, Fed::Going, 0),
-        (text(a, 2, 0xffff_ffff, b"SendTargets=All\0")?, Fed::Closed, 0),
+        (
+            text(a, 2, 0xffff_ffff, b"SendTargets=All\0")?,
+            Fed::Closed,
+            0,
+        ),
         (request(a, 0x81, 1, FIRST)?, Fed::Closed, 0),
-        (pdu(a, [0x40, 0x80], &[(16, 6), (20, 0xffff_ffff), (24, 2)], b"hello")?, Fed::Going, 56),
-        (pdu(a, [0x40, 0x80], &[(16, 0xffff_ffff), (20, 0xffff_ffff), (24, 2)], b"hello")?, Fed::Going, 0),
+        (
+            pdu(
+                a,
+                [0x40, 0x80],
+                &[(16, 6), (20, 0xffff_ffff), (24, 2)],
+                b"hello",
+            )?,
+            Fed::Going,
+            56,
+        ),
+        (
+            pdu(
+                a,
+                [0x40, 0x80],
+                &[(16, 0xffff_ffff), (20, 0xffff_ffff), (24, 2)],
+                b"hello",
+            )?,
+            Fed::Going,
+            0,
+        ),
         (abort(a, 9, 6)?, Fed::Going, 48),
-        (pdu(a, [0x42, 0x86], &[(16, 9), (20, 0xffff_ffff), (24, 2)], NOTHING)?, Fed::Going, 48),
-        (pdu(a, [0x42, 0x85], &[(8, 0x0007_0000), (16, 9), (24, 2)], NOTHING)?, Fed::Going, 48),
-        (pdu(a, [0x46, 0x80], &[(16, 9), (24, 2)], NOTHING)?, Fed::Closed, 48),
+        (
+            pdu(
+                a,
+                [0x42, 0x86],
+                &[(16, 9), (20, 0xffff_ffff), (24, 2)],
+                NOTHING,
+            )?,
+            Fed::Going,
+            48,
+        ),
+        (
+            pdu(
+                a,
+                [0x42, 0x85],
+                &[(8, 0x0007_0000), (16, 9), (24, 2)],
+                NOTHING,
+            )?,
+            Fed::Going,
+            48,
+        ),
+        (
+            pdu(a, [0x46, 0x80], &[(16, 9), (24, 2)], NOTHING)?,
+            Fed::Closed,
+            48,
+        ),
         (pdu(a, [0x21, 0x80], &[(16, 5)], NOTHING)?, Fed::Closed, 0),
         (pdu(a, [0x07, 0x80], &[(16, 5)], NOTHING)?, Fed::Closed, 0),
-        (pdu(a, [0x05, 0x80], &[(4, 65_537), (16, 5)], NOTHING)?, Fed::Closed, 0),
+        (
+            pdu(a, [0x05, 0x80], &[(4, 65_537), (16, 5)], NOTHING)?,
+            Fed::Closed,
+            0,
+        ),
     ] {
         let mut bench = Bench::new(a, None)?;
         assert_eq!(rt; bench.logged_in(1, 1, FIRST)?, Fed::Going);
@@ -393,7 +502,12 @@ fn a_reset_ends_tasks_of_all_sessions(rt: HostRuntime) -> Result<(), Fail> {
     assert_eq!(rt; bench.logged_in(2, 2, FIRST)?, Fed::Going);
     let bytes = command(a, 5, 1, WRITE, 0xa1, 300_032, NOTHING)?;
     bench.meets(1, &bytes, 48)?;
-    let bytes = pdu(a, [0x42, 0x86], &[(16, 9), (20, 0xffff_ffff), (24, 1)], NOTHING)?;
+    let bytes = pdu(
+        a,
+        [0x42, 0x86],
+        &[(16, 9), (20, 0xffff_ffff), (24, 1)],
+        NOTHING,
+    )?;
     assert_eq!(rt; bench.meets(2, &bytes, 48)?, Fed::Going);
     let bytes = command(a, 6, 2, CAPACITY, 0xc1, 8, NOTHING)?;
     assert_eq!(rt; bench.meets(1, &bytes, 48)?, Fed::Going);

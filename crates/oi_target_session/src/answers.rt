@@ -4,9 +4,7 @@ ghost use Rattle.oi_target_session.specs.Answers.{echo_pdu, is_over, is_under, l
 use crate::limits::Numbers;
 use crate::task::Task;
 use oi_base::{Blob, NoMemory, Tag};
-use oi_pdu::{
-    Header, LogoutResponse, NopIn, Pdu, R2t, ScsiResponse, TaskResponse, TextResponse,
-};
+use oi_pdu::{Header, LogoutResponse, NopIn, Pdu, R2t, ScsiResponse, TaskResponse, TextResponse};
 use oi_recovery::Residual;
 use oi_units::UnitReply;
 use std::alloc::Global;

@@ -60,12 +60,7 @@ fn rest(alloc: Global, text: &[u8], limits: Limits) -> Result<Blob, NoMemory>
 }
 
 impl Session {
-    fn keep_text(
-        &mut self,
-        h: TextRequest,
-        text: Blob,
-        out: &mut Vec<u8>,
-    ) -> Result<Fed, NoMemory>
+    fn keep_text(&mut self, h: TextRequest, text: Blob, out: &mut Vec<u8>) -> Result<Fed, NoMemory>
         ensures session { OnOk result (self.new ≡ (text_kept self.old h text).session) }
         ensures out { OnOk result (out.new.items ≡ out.old.items ++ bytes_of (text_kept self.old h text).sent) }
         ensures fed { IfOk result (λ f. f ≡ (text_kept self.old h text).fed) }

@@ -1,7 +1,7 @@
 use Rattle.std.specs.Vec.Iter.{into_iter_items}
 use Rattle.oi_target.specs.Steps.{steps}
 use Rattle.oi_target.proofs.Walked.{StepsOn}
-use Rattle.oi_target.proofs.steps.Target.steps.Given as goal
+use Rattle.oi_target.proofs.target.Target.steps.Given as goal
 
 abbrev pub invariant-loop-pdu : goal.invariant-loop-pdu
 invariant-loop-pdu l =
