@@ -1,3 +1,5 @@
 pub mod Changes
+pub mod Framed
+pub mod Joins
 pub mod Places
 pub mod Walked

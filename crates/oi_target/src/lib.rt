@@ -3,6 +3,7 @@
 
 mod config;
 mod feed;
+mod laws;
 mod link;
 mod steps;
 mod target;
@@ -10,6 +11,7 @@ mod target;
 mod tests;
 
 pub use config::TargetConfig;
+pub use laws::{cuts_do_not_matter, units_change_by_execution};
 pub use oi_target_login::{ChapConfig, Moved};
 pub use oi_target_session::Fed;
 pub use target::Target;

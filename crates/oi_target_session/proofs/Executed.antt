@@ -30,11 +30,11 @@ served_units s units listing p = go (handled s units listing p.head p.payload).f
   go Going = units_in_order h.session units h.session.tasks
 
 -- a first part, and a rest where the connection stays
-joined_units : (units middle end : List LogicalUnit) (first rest : List Request) → middle ≡ units_after units first → end ≡ units_after middle rest
+pub joined_units : (units middle end : List LogicalUnit) (first rest : List Request) → middle ≡ units_after units first → end ≡ units_after middle rest
     → end ≡ units_after units (first ++ rest)
 joined_units units middle end first rest is was = was ∙ ap (λ (z : List LogicalUnit). units_after z rest) is ∙ sym (units_join units first rest)
 
-stopped_units : (units middle : List LogicalUnit) (first : List Request) → middle ≡ units_after units first → middle ≡ units_after units (first ++ [])
+pub stopped_units : (units middle : List LogicalUnit) (first : List Request) → middle ≡ units_after units first → middle ≡ units_after units (first ++ [])
 stopped_units units middle first is = is ∙ ap (λ (z : List Request). units_after units z) (sym (append-nil first))
 
 in_turn_units : (s : Session) (units : List LogicalUnit) (listing : List Found) (p : Pdu) (held : Held) → (in_turn s units listing p held).units ≡ units_after units (in_turn_requests s units listing p held)
@@ -54,7 +54,7 @@ in_turn_units s units listing p (Some next ∷ held) =
       go Going is was = joined_units units t.units (in_turn t.session t.units listing next held).units (served_requests (advanced s) units listing p)
           (in_turn_requests t.session t.units listing next held) is was
 
-placed_units : (place : Place) (s : Session) (units : List LogicalUnit) (listing : List Found) (held : Held) (p : Pdu)
+pub placed_units : (place : Place) (s : Session) (units : List LogicalUnit) (listing : List Found) (held : Held) (p : Pdu)
     → (received_at place s units listing held p).units ≡ units_after units (requests_at place s units listing held p)
 placed_units Now s units listing held p = served_units s units listing p
 placed_units InTurn s units listing held p = in_turn_units s units listing p held

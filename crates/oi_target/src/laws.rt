@@ -1,0 +1,16 @@
+ghost use Rattle.oi_target.specs.Runs.{PartsComeToTheWhole, PiecesAreFramed, StepsExecute, StepsJoin};
+
+/// What a target does on a connection depends on the bytes and on the order of PDUs, and not on how the bytes were cut: the PDUs
+/// that were served are the framing of all bytes of the connection, and a piece in two parts comes to the same as in one.
+#[tactic(auto, using(crate::proofs::Joins::steps_join))]
+pub fn cuts_do_not_matter()
+    ensures framed { PiecesAreFramed }
+    ensures parts { PartsComeToTheWhole }
+    ensures pdus { StepsJoin }
+{}
+
+/// The logical units change by the commands that are executed alone, one after another.
+#[tactic(auto, using(crate::proofs::Joins::steps_execute))]
+pub fn units_change_by_execution()
+    ensures { StepsExecute }
+{}
