@@ -10,7 +10,7 @@ use Rattle.oi_stream.specs.declared.fault.StreamFault.{StreamFault}
 use Rattle.oi_stream.specs.declared.fault.StreamFault.TheVariants as faults
 use Rattle.oi_target.proofs.Joins.{steps_join}
 use Rattle.oi_target.specs.Feeding.{Cuts, IsCutBy}
-use Rattle.oi_target.specs.Runs.{AreFramed, PartsComeToTheWhole, PiecesAreFramed, is_stop}
+use Rattle.oi_target.specs.Runs.{AreFramed, AreServed, CutsGiveTheSame, PartsComeToTheWhole, PiecesAreFramed, WholeIsFramed, is_stop, joined}
 use Rattle.oi_target.specs.Steps.{Step, behind, faulted, faulted_fed, faulted_standing, one_then, step_of, steps}
 use Rattle.oi_target.specs.Targets.{Target}
 use Rattle.oi_target.specs.declared.link.Link.{Link}
@@ -71,6 +71,44 @@ goes_on_by (Err (faults.BadHeader place byte)) bytes before pdus piece old new g
 goes_on_by (Err (faults.TooLong place size)) bytes before pdus piece old new going f fed by = not_fault by
 goes_on_by (Err (faults.Ended place)) bytes before pdus piece old new going f fed by = not_fault by
 goes_on_by (Err faults.Memory) bytes before pdus piece old new going f fed by = absurd by
+
+-- all pieces so far, behind which no malformed PDU stands
+pub record StandsAt (bytes : List ℕ) (pdus : List Pdu) (s : State) : Type 0 where
+  pub going : s.ended ≡ false
+  pub limit : s.limit ≡ 65536
+  pub follows : Follows bytes pdus s
+
+stands_at : (pieces : List (List ℕ)) (pdus : List Pdu) (s : State) → AreServed pieces pdus s → StandsAt (joined pieces) pdus s
+stands_at [] pdus s a = record {
+  going = a.3;
+  limit = a.2;
+  follows = subst (λ (ps : List Pdu). Follows [] ps s) (sym a.0) a.1;
+}
+stands_at (piece ∷ pieces) pdus s a =
+    let was = stands_at pieces a.0 a.2 a.3 in
+    let on = goes_on_by a.4.0 (joined pieces) a.0 a.1 piece a.2 s was.going was.follows a.4.1 a.4.2 in
+    record {
+      going = on.going;
+      limit = on.limit ∙ was.limit;
+      follows = subst (λ (ps : List Pdu). Follows (joined pieces ++ piece) ps s) (sym a.5) on.follows;
+    }
+
+pub whole_is_framed : WholeIsFramed
+whole_is_framed pieces pdus s a =
+    let at = stands_at pieces pdus s a in
+    record {
+      place = s.place;
+      stop = Short;
+      frames = subst (λ (n : ℕ). Frames n (joined pieces) pdus s.place Short) at.limit (followed_is_framed (joined pieces) pdus s at.follows);
+      fault_is = refl;
+    }
+
+pub cuts_give_the_same : CutsGiveTheSame
+cuts_give_the_same pieces others pdus same s s' a b bytes =
+    let first = whole_is_framed pieces pdus s a in
+    let second = whole_is_framed others same s' b in
+    (one_framing 65536 (joined others) pdus same first.place second.place first.stop second.stop
+    (subst (λ (z : List ℕ). Frames 65536 z pdus first.place first.stop) bytes first.frames) second.frames).0
 
 -- the PDUs of two pieces are those of both in one
 pub record AreSame (first second all : List Pdu) (fault same : Bool) : Type 0 where

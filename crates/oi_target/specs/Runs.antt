@@ -40,6 +40,27 @@ PiecesAreFramed =
     → old.ended ≡ false → Follows bytes before old → Cuts old new piece pdus fault
     → AreFramed old.limit (bytes ++ piece) (before ++ pdus) fault
 
+-- the bytes of pieces, of which the newest stands first
+abbrev pub joined : List (List ℕ) → List ℕ
+joined [] = []
+joined (piece ∷ pieces) = joined pieces ++ piece
+
+-- all pieces that came on a connection since it was accepted, and all PDUs that they made whole
+abbrev pub AreServed : List (List ℕ) → List Pdu → State → Type 0
+AreServed [] pdus s = (pdus ≡ []) × Follows [] [] s × (s.limit ≡ 65536) × (s.ended ≡ false)
+AreServed (piece ∷ pieces) pdus s =
+    (before : List Pdu) × (more : List Pdu) × (old : State) × AreServed pieces before old × Cuts old s piece more false × (pdus ≡ before ++ more)
+
+-- over all bytes of a connection: its PDUs are the framing of these bytes
+abbrev pub WholeIsFramed : Type 0
+WholeIsFramed = (pieces : List (List ℕ)) (pdus : List Pdu) (s : State) → AreServed pieces pdus s → AreFramed 65536 (joined pieces) pdus false
+
+-- so the same bytes in other pieces made the same PDUs whole
+abbrev pub CutsGiveTheSame : Type 0
+CutsGiveTheSame =
+    (pieces others : List (List ℕ)) (pdus same : List Pdu) (s s' : State)
+    → AreServed pieces pdus s → AreServed others same s' → joined pieces ≡ joined others → pdus ≡ same
+
 -- a piece that is fed in two parts comes to the same as in one: the target, where the connection stands, what is sent, and whether
 -- it stays
 abbrev pub PartsComeToTheWhole : Type 0

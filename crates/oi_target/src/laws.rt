@@ -1,9 +1,11 @@
-ghost use Rattle.oi_target.specs.Runs.{PartsComeToTheWhole, PiecesAreFramed, StepsExecute, StepsJoin};
+ghost use Rattle.oi_target.specs.Runs.{CutsGiveTheSame, PartsComeToTheWhole, PiecesAreFramed, StepsExecute, StepsJoin, WholeIsFramed};
 
 /// What a target does on a connection depends on the bytes and on the order of PDUs, and not on how the bytes were cut: the PDUs
 /// that were served are the framing of all bytes of the connection, and a piece in two parts comes to the same as in one.
 #[tactic(auto, using(crate::proofs::Joins::steps_join))]
 pub fn cuts_do_not_matter()
+    ensures whole { WholeIsFramed }
+    ensures same { CutsGiveTheSame }
     ensures framed { PiecesAreFramed }
     ensures parts { PartsComeToTheWhole }
     ensures pdus { StepsJoin }
