@@ -1,3 +1,4 @@
+pub mod Bared
 pub mod Changes
 pub mod Framed
 pub mod Joins

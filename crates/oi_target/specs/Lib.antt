@@ -1,3 +1,4 @@
+pub mod Events
 pub mod Feeding
 pub mod Runs
 pub mod Steps

@@ -11,7 +11,7 @@ mod target;
 mod tests;
 
 pub use config::TargetConfig;
-pub use laws::{cuts_do_not_matter, units_change_by_execution};
+pub use laws::{calls_are_events, cuts_do_not_matter, units_change_by_execution};
 pub use oi_target_login::{ChapConfig, Moved};
 pub use oi_target_session::Fed;
 pub use target::Target;

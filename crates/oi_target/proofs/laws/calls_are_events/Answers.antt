@@ -1,0 +1,8 @@
+use Rattle.oi_target.proofs.Bared.{calls_are_events, feeds_are_events}
+use Rattle.oi_target.proofs.laws.calls_are_events.Goals as goal
+
+pub returns-clause-feeds : goal.returns-clause-feeds
+returns-clause-feeds c = feeds_are_events
+
+pub returns-clause-others : goal.returns-clause-others
+returns-clause-others c = calls_are_events
