@@ -2,7 +2,7 @@
 use Rattle.std.proofs.Common.{ℕ, Bool, true, false, ◌≡◌, ◌∙◌, Option, Some, None, List, [], ◌∷◌, ◌++◌, Ok, map, refl, ap, sym, append-nil, if◌then◌else◌, ◌==◌}
 use Rattle.oi_pdu.specs.declared.codec.Pdu.{Pdu}
 use Rattle.oi_stream.specs.Feeding.{State}
-use Rattle.oi_target.specs.Events.{CallsAreEvents, Came, Event, FeedsAreEvents, Happened, Joined, Left, Touched, bare, bare_link, came, happened, happens, no_bytes, touched, touched_step}
+use Rattle.oi_target.specs.Events.{CallsAreEvents, Came, Event, FeedsAreEvents, Happened, IsOn, Joined, Left, Touched, bare, bare_link, came, happened, happens, no_bytes, touched, touched_step}
 use Rattle.oi_target.specs.Feeding.{Connects, Cuts, Feeds, FeedsLink, IsServed, TakesIn, ended_step, link_at, put_back, wire}
 use Rattle.oi_target.specs.Steps.{Step, closing, faulted, logged_in, logged_in_by, one_then, served_as, step_of, stepped, steps, with_words}
 use Rattle.oi_target.specs.Targets.{Target, ended_by, link_of, new_link, nexus_of, reset_link, reset_links, with_links, without}
@@ -143,33 +143,51 @@ touched_event old new n l piece before after sent s mine his is does same become
       out = writes ∙ ap (λ (ps : List Pdu). before ++ wire ps) (sends ∙ ap (λ (z : Step). z.sent) same ∙ sym (ap (λ (z : Happened). z.sent) event));
     }
 
+-- an event of this connection and these bytes
+pub record Found (old new : Target) (n : ℕ) (piece before after : List ℕ) : Type 0 where
+  pub event : Event
+  pub on : IsOn n piece event
+  pub is : IsEvent old new before after event
+
 event_at : (old new : Target) (n : ℕ) (l : Link) (piece before after : List ℕ) (sent : List Pdu) (fed : Fed) (s : Standing) → l.standing ≡ s
     → link_of n old.links ≡ Some l → TakesIn (with_links old (without n old.links)) l s piece new sent fed → after ≡ before ++ wire sent
-    → (e : Event) × IsEvent old new before after e
+    → Found old new n piece before after
 event_at old new n l piece before after sent fed (standing.LoggingIn p) at is h writes =
-    (Came n h.0 h.1, served_event old new n l before after h.0 sent h.1 h.2 is h.4 h.5 writes)
+    record { event = Came n h.0 h.1; on = refl; is = served_event old new n l before after h.0 sent h.1 h.2 is h.4 h.5 writes }
 event_at old new n l piece before after sent fed (standing.Serving v) at is h writes =
-    (Came n h.0 h.1, served_event old new n l before after h.0 sent h.1 h.2 is h.4 h.5 writes)
+    record { event = Came n h.0 h.1; on = refl; is = served_event old new n l before after h.0 sent h.1 h.2 is h.4 h.5 writes }
 event_at old new n l piece before after sent fed standing.Ended at is h writes =
     let t : Target = with_links old (without n old.links) in
-    (Touched n piece, touched_event old new n l piece before after sent standing.Ended (ended_step t piece) (ended_step (bare t) piece) is
-    (ap (λ (z : Standing). happens l.number (touched_step (bare t) z piece)) at) (ended_bare_step t piece) h.0 h.1 writes)
+    record {
+      event = Touched n piece;
+      on = (refl, refl);
+      is = touched_event old new n l piece before after sent standing.Ended (ended_step t piece) (ended_step (bare t) piece) is
+          (ap (λ (z : Standing). happens l.number (touched_step (bare t) z piece)) at) (ended_bare_step t piece) h.0 h.1 writes;
+    }
 event_at old new n l piece before after sent fed standing.Closed at is h writes =
     let t : Target = with_links old (without n old.links) in
-    (Touched n piece, touched_event old new n l piece before after sent standing.Closed (closing t []) (closing (bare t) []) is
-    (ap (λ (z : Standing). happens l.number (touched_step (bare t) z piece)) at) refl h.0 h.1 writes)
+    record {
+      event = Touched n piece;
+      on = (refl, refl);
+      is = touched_event old new n l piece before after sent standing.Closed (closing t []) (closing (bare t) []) is
+          (ap (λ (z : Standing). happens l.number (touched_step (bare t) z piece)) at) refl h.0 h.1 writes;
+    }
 
 event_by : (old new : Target) (n : ℕ) (piece before after : List ℕ) (fed : Fed) (o : Option Link) → link_of n old.links ≡ o
-    → FeedsLink (with_links old (without n old.links)) o piece before after fed new → (e : Event) × IsEvent old new before after e
-event_by old new n piece before after fed None is h = (Touched n piece, record {
-  target = ap bare h.0 ∙ sym (ap (λ (z : Happened). z.target) (touched_is old n None piece is));
-  out = h.2 ∙ sym (append-nil before) ∙ sym (ap (λ (z : Happened). before ++ wire z.sent) (touched_is old n None piece is));
-})
+    → FeedsLink (with_links old (without n old.links)) o piece before after fed new → Found old new n piece before after
+event_by old new n piece before after fed None is h = record {
+  event = Touched n piece;
+  on = (refl, refl);
+  is = record {
+    target = ap bare h.0 ∙ sym (ap (λ (z : Happened). z.target) (touched_is old n None piece is));
+    out = h.2 ∙ sym (append-nil before) ∙ sym (ap (λ (z : Happened). before ++ wire z.sent) (touched_is old n None piece is));
+  };
+}
 event_by old new n piece before after fed (Some l) is h = event_at old new n l piece before after h.0 fed l.standing refl is h.1 h.2
 
 pub feeds_are_events : FeedsAreEvents
 feeds_are_events old new n piece before after fed h =
-    let found = event_by old new n piece before after fed (link_of n old.links) refl h.1 in (found.0, found.1.target, found.1.out)
+    let found = event_by old new n piece before after fed (link_of n old.links) refl h.1 in (found.event, found.on, found.is.target, found.is.out)
 
 pub calls_are_events : CallsAreEvents
 calls_are_events old new n = (

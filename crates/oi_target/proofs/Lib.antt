@@ -1,5 +1,6 @@
 pub mod Bared
 pub mod Changes
+pub mod Courses
 pub mod Framed
 pub mod Joins
 pub mod Places

@@ -61,12 +61,18 @@ happened t (Told listing) = silently (record t { listing = listing })
 happened t (Came n pdus fault) = came (with_links t (without n t.links)) (link_of n t.links) pdus fault
 happened t (Touched n piece) = touched (with_links t (without n t.links)) (link_of n t.links) piece
 
+-- an event of this connection, for these bytes
+abbrev pub IsOn : ℕ → List ℕ → Event → Type 0
+IsOn n piece (Came m pdus fault) = m ≡ n
+IsOn n piece (Touched m bytes) = (m ≡ n) × (bytes ≡ piece)
+IsOn n piece e = ⊥
+
 -- a piece that was taken in is an event of its connection: what is written on it, and all that becomes of the target, are those of
 -- the event
 abbrev pub FeedsAreEvents : Type 0
 FeedsAreEvents =
     (old new : Target) (n : ℕ) (piece before after : List ℕ) (fed : Fed) → Feeds old n piece before after (Ok fed) new
-    → (e : Event) × (bare new ≡ (happened (bare old) e).target) × (after ≡ before ++ wire (happened (bare old) e).sent)
+    → (e : Event) × IsOn n piece e × (bare new ≡ (happened (bare old) e).target) × (after ≡ before ++ wire (happened (bare old) e).sent)
 
 -- and so are the other calls
 abbrev pub CallsAreEvents : Type 0

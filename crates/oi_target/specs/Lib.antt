@@ -1,3 +1,4 @@
+pub mod Courses
 pub mod Events
 pub mod Feeding
 pub mod Runs

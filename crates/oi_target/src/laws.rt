@@ -1,3 +1,4 @@
+ghost use Rattle.oi_target.specs.Courses.{CoursesAreEvents};
 ghost use Rattle.oi_target.specs.Events.{CallsAreEvents, FeedsAreEvents};
 ghost use Rattle.oi_target.specs.Runs.{CutsGiveTheSame, PartsComeToTheWhole, PiecesAreFramed, StepsExecute, StepsJoin, WholeIsFramed};
 
@@ -21,6 +22,7 @@ pub fn units_change_by_execution()
 /// A target is a function of what came to it: connections that were accepted or are gone, listings, and the PDUs of each connection
 /// in the order in which they became whole. Two targets that differ in the bytes of which no PDU was made yet alone write the same.
 pub fn calls_are_events()
+    ensures whole { CoursesAreEvents }
     ensures feeds { FeedsAreEvents }
     ensures others { CallsAreEvents }
 {}

@@ -1,4 +1,5 @@
 use Rattle.oi_target.proofs.Bared.{calls_are_events, feeds_are_events}
+use Rattle.oi_target.proofs.Courses.{courses_are_events}
 use Rattle.oi_target.proofs.laws.calls_are_events.Goals as goal
 
 pub returns-clause-feeds : goal.returns-clause-feeds
@@ -6,3 +7,6 @@ returns-clause-feeds c = feeds_are_events
 
 pub returns-clause-others : goal.returns-clause-others
 returns-clause-others c = calls_are_events
+
+pub returns-clause-whole : goal.returns-clause-whole
+returns-clause-whole c = courses_are_events
