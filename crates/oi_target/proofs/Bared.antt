@@ -102,7 +102,7 @@ came_is old n l pdus fault is =
     ap (λ (z : Target). came z (link_of n (map bare_link old.links)) pdus fault) (sym (taken_bare old n))
     ∙ ap (λ (o : Option Link). came (bare (with_links old (without n old.links))) o pdus fault) (link_bare n old.links ∙ ap bare_option is)
 
-touched_is : (old : Target) (n : ℕ) (o : Option Link) (piece : List ℕ) → link_of n old.links ≡ o
+pub touched_is : (old : Target) (n : ℕ) (o : Option Link) (piece : List ℕ) → link_of n old.links ≡ o
     → happened (bare old) (Touched n piece) ≡ touched (bare (with_links old (without n old.links))) (bare_option o) piece
 touched_is old n o piece is =
     ap (λ (z : Target). touched z (link_of n (map bare_link old.links)) piece) (sym (taken_bare old n))
@@ -113,7 +113,7 @@ pub record IsEvent (old new : Target) (before after : List ℕ) (e : Event) : Ty
   pub target : bare new ≡ (happened (bare old) e).target
   pub out : after ≡ before ++ wire (happened (bare old) e).sent
 
-served_event : (old new : Target) (n : ℕ) (l : Link) (before after : List ℕ) (pdus sent : List Pdu) (fault : Bool) (splitter : State)
+pub served_event : (old new : Target) (n : ℕ) (l : Link) (before after : List ℕ) (pdus sent : List Pdu) (fault : Bool) (splitter : State)
     → link_of n old.links ≡ Some l
     → new ≡ put_back l.number splitter (faulted fault (steps (with_links old (without n old.links)) l.standing pdus))
     → sent ≡ (faulted fault (steps (with_links old (without n old.links)) l.standing pdus)).sent → after ≡ before ++ wire sent
@@ -128,11 +128,11 @@ served_event old new n l before after pdus sent fault splitter is becomes sends 
       out = writes ∙ ap (λ (ps : List Pdu). before ++ wire ps) (sends ∙ ap (λ (s : Step). s.sent) same ∙ sym (ap (λ (z : Happened). z.sent) event));
     }
 
-ended_bare_step : (t : Target) (piece : List ℕ) → bare_step (ended_step t piece) ≡ ended_step (bare t) piece
+pub ended_bare_step : (t : Target) (piece : List ℕ) → bare_step (ended_step t piece) ≡ ended_step (bare t) piece
 ended_bare_step t [] = refl
 ended_bare_step t (b ∷ bs) = refl
 
-touched_event : (old new : Target) (n : ℕ) (l : Link) (piece before after : List ℕ) (sent : List Pdu) (s : Standing) (mine his : Step)
+pub touched_event : (old new : Target) (n : ℕ) (l : Link) (piece before after : List ℕ) (sent : List Pdu) (s : Standing) (mine his : Step)
     → link_of n old.links ≡ Some l → touched (bare (with_links old (without n old.links))) (Some (bare_link l)) piece ≡ happens l.number his
     → bare_step mine ≡ his → new ≡ put_back l.number l.splitter mine → sent ≡ mine.sent → after ≡ before ++ wire sent
     → IsEvent old new before after (Touched n piece)

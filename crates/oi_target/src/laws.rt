@@ -1,4 +1,4 @@
-ghost use Rattle.oi_target.specs.Courses.{CoursesAreEvents};
+ghost use Rattle.oi_target.specs.Courses.{CoursesAreEvents, CoursesAreFramed};
 ghost use Rattle.oi_target.specs.Events.{CallsAreEvents, FeedsAreEvents};
 ghost use Rattle.oi_target.specs.Runs.{CutsGiveTheSame, PartsComeToTheWhole, PiecesAreFramed, StepsExecute, StepsJoin, WholeIsFramed};
 
@@ -23,6 +23,7 @@ pub fn units_change_by_execution()
 /// in the order in which they became whole. Two targets that differ in the bytes of which no PDU was made yet alone write the same.
 pub fn calls_are_events()
     ensures whole { CoursesAreEvents }
+    ensures framed { CoursesAreFramed }
     ensures feeds { FeedsAreEvents }
     ensures others { CallsAreEvents }
 {}
