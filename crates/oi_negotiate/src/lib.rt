@@ -15,3 +15,4 @@ pub use keys::{Key, NumberKey, WordKey, key_named};
 pub use laws::{answered_keys_settle, silent_keys_settle};
 pub use negotiation::{KeyFault, negotiate};
 pub use offer::Offer;
+pub use values::{is_silent, number};

@@ -9,6 +9,7 @@ pub enum Base {
     Hex,
 }
 
+/// Whether the other side does not settle the key (RFC 7143, section 6.2).
 pub fn is_silent(text: &[u8]) -> bool
     ensures { result ≡ is_silent text.now }
 {
@@ -27,6 +28,7 @@ pub fn word(text: &[u8]) -> Option<bool>
     }
 }
 
+/// The number of a text, in decimal or in hex behind `0x`, where it is from `low` to `high` (RFC 7143, section 6.1).
 pub fn number(text: &[u8], low: u32, high: u32) -> Option<u32>
     ensures value { result ≡ number_within low high text.now }
     ensures high { IfSome result (λ n. n ≤ high) }

@@ -1,0 +1,10 @@
+pub mod Bared
+pub mod Changes
+pub mod Courses
+pub mod Framed
+pub mod Joins
+pub mod Linked
+pub mod Numbered
+pub mod Places
+pub mod Served
+pub mod Walked

@@ -1,0 +1,6 @@
+pub mod Courses
+pub mod Events
+pub mod Feeding
+pub mod Runs
+pub mod Steps
+pub mod Targets
