@@ -43,9 +43,9 @@ const FIRST: &[u8] = b"# BEGIN RECORD 1\n";
 
 const SECOND: &[u8] = b"# BEGIN RECORD 2\n";
 
-const D1: &str = "iqn.2024-01.org.example:d1";
+const DISK_ONE: &str = "iqn.2024-01.org.example:d1";
 
-const D2: &str = "iqn.2024-01.org.example:d2";
+const DISK_TWO: &str = "iqn.2024-01.org.example:d2";
 
 const PATH1: &str = "nodes/iqn.2024-01.org.example:d1/127.0.0.1,3260,1/default";
 
@@ -159,19 +159,19 @@ fn records_by_the_tool(rt: HostRuntime) -> Result<(), Fail> {
     );
     assert_eq!(rt; db.delete(&mut store, &any, &[]), Err(DbError::NoObjects));
     assert_eq!(rt;
-        db.new_record(&mut store, key_at(&rt, alloc, D1)?),
+        db.new_record(&mut store, key_at(&rt, alloc, DISK_ONE)?),
         Ok(true)
     );
-    let fresh = fresh_text(alloc, D1)?;
+    let fresh = fresh_text(alloc, DISK_ONE)?;
     holds(&rt, &store, PATH1, fresh.as_slice());
     assert_eq!(rt;
-        db.new_record(&mut store, key_at(&rt, alloc, D1)?),
+        db.new_record(&mut store, key_at(&rt, alloc, DISK_ONE)?),
         Ok(false)
     );
     holds(&rt, &store, PATH1, fresh.as_slice());
     assert_eq!(rt; db.update(&mut store, &any, commands, "64"), Ok(1));
     let line = b"node.session.cmds_max = 64\n";
-    let changed = text_of(alloc, SECOND, D1, COMMANDS, line, FRESH_END)?;
+    let changed = text_of(alloc, SECOND, DISK_ONE, COMMANDS, line, FRESH_END)?;
     holds(&rt, &store, PATH1, changed.as_slice());
     let bad = DbError::BadValue {
         name: named(alloc, commands.as_bytes())?,
@@ -181,13 +181,13 @@ fn records_by_the_tool(rt: HostRuntime) -> Result<(), Fail> {
         let bad = DbError::BadName {
             name: named(alloc, wrong.as_bytes())?,
         };
-        assert_eq!(rt; db.update(&mut store, &any, wrong, D1), Err(bad));
+        assert_eq!(rt; db.update(&mut store, &any, wrong, DISK_ONE), Err(bad));
     }
     holds(&rt, &store, PATH1, changed.as_slice());
     assert_eq!(rt; db.records().len(), 1);
     assert_eq!(rt; db.delete(&mut store, &any, &[]), Ok(1));
     assert_eq!(rt; store.text_at(PATH1), None);
-    assert!(rt; db.get(&key_at(&rt, alloc, D1)?).is_none());
+    assert!(rt; db.get(&key_at(&rt, alloc, DISK_ONE)?).is_none());
     Ok(())
 }
 
@@ -196,7 +196,7 @@ fn unknown_names_stay(rt: HostRuntime) -> Result<(), Fail> {
     let alloc = rt.alloc();
     let mut store = empty_store(alloc);
     let end = b"site = north\nx.y=z = a = b\nnode.session.oi.count_disrupted = No\n# END RECORD\n";
-    let old = text_of(alloc, SECOND, D1, NOWHERE, b"", end)?;
+    let old = text_of(alloc, SECOND, DISK_ONE, NOWHERE, b"", end)?;
     assert_eq!(rt; store.write_whole(PATH1, old.as_slice()), Ok(()));
     let mut db = load(&rt, alloc, &mut store);
     let any = Filter::any();
@@ -205,7 +205,7 @@ fn unknown_names_stay(rt: HostRuntime) -> Result<(), Fail> {
         Ok(1)
     );
     let line = b"node.session.cmds_max = 64\n";
-    let new = text_of(alloc, SECOND, D1, COMMANDS, line, end)?;
+    let new = text_of(alloc, SECOND, DISK_ONE, COMMANDS, line, end)?;
     holds(&rt, &store, PATH1, new.as_slice());
     Ok(())
 }
@@ -215,20 +215,20 @@ fn record_schema_migration(rt: HostRuntime) -> Result<(), Fail> {
     let alloc = rt.alloc();
     let mut store = empty_store(alloc);
     let north = b"site = north\n# END RECORD\n";
-    let first = text_of(alloc, FIRST, D1, NOWHERE, b"", north)?;
-    let second = text_of(alloc, FIRST, D2, NOWHERE, b"", b"# END RECORD\n")?;
+    let first = text_of(alloc, FIRST, DISK_ONE, NOWHERE, b"", north)?;
+    let second = text_of(alloc, FIRST, DISK_TWO, NOWHERE, b"", b"# END RECORD\n")?;
     assert_eq!(rt; store.write_whole(PATH1, first.as_slice()), Ok(()));
     assert_eq!(rt; store.write_whole(PATH2, second.as_slice()), Ok(()));
     let mut db = load(&rt, alloc, &mut store);
     holds(&rt, &store, PATH1, first.as_slice());
     let newest = "node.session.oi.count_disrupted";
-    let one = of_target(&rt, alloc, D1);
+    let one = of_target(&rt, alloc, DISK_ONE);
     assert_eq!(rt; db.update(&mut store, &one, newest, "No"), Ok(1));
     let end = b"site = north\nnode.session.oi.count_disrupted = No\n# END RECORD\n";
-    let written = text_of(alloc, SECOND, D1, NOWHERE, b"", end)?;
+    let written = text_of(alloc, SECOND, DISK_ONE, NOWHERE, b"", end)?;
     holds(&rt, &store, PATH1, written.as_slice());
     holds(&rt, &store, PATH2, second.as_slice());
-    match db.get(&key_at(&rt, alloc, D2)?) {
+    match db.get(&key_at(&rt, alloc, DISK_TWO)?) {
         Some(record) => {
             assert_eq!(rt; record.count(), 30);
             let (name, value) = record.pair(29);
@@ -262,7 +262,7 @@ fn bad_load(rt: &impl Abort, alloc: Global, store: &mut MemStore, path: &str, li
 fn bad_texts_are_told(rt: HostRuntime) -> Result<(), Fail> {
     let alloc = rt.alloc();
     let mut store = empty_store(alloc);
-    let good = fresh_text(alloc, D1)?;
+    let good = fresh_text(alloc, DISK_ONE)?;
     let other = "nodes/iqn.2024-01.org.example:d1/127.0.0.1,3260,2/default";
     assert_eq!(rt; store.write_whole("other/place", b"no record"), Ok(()));
     assert_eq!(rt; store.write_whole("nodes", b"no record"), Ok(()));
@@ -272,7 +272,7 @@ fn bad_texts_are_told(rt: HostRuntime) -> Result<(), Fail> {
     let cut = text_of(
         alloc,
         SECOND,
-        D1,
+        DISK_ONE,
         NOWHERE,
         b"",
         b"node.session.oi.count_disrupted = Yes\n",
@@ -282,7 +282,7 @@ fn bad_texts_are_told(rt: HostRuntime) -> Result<(), Fail> {
     let bad = text_of(
         alloc,
         SECOND,
-        D1,
+        DISK_ONE,
         COMMANDS,
         b"node.session.cmds_max = 0\n",
         FRESH_END,
@@ -306,7 +306,7 @@ fn three(
     store: &mut MemStore,
     db: &mut NodeDb,
 ) -> Result<(), Fail> {
-    for target in [D2, "iqn.2024-01.org.example:d10", D1] {
+    for target in [DISK_TWO, "iqn.2024-01.org.example:d10", DISK_ONE] {
         assert_eq!(rt; db.new_record(store, key_at(rt, alloc, target)?), Ok(true));
     }
     Ok(())
@@ -327,7 +327,7 @@ fn failing_remove_stops_in_the_middle(rt: HostRuntime) -> Result<(), Fail> {
     assert!(rt; store.text_at(PATH10).is_some());
     assert!(rt; store.text_at(PATH2).is_some());
     assert_eq!(rt; db.records().len(), 2);
-    assert!(rt; db.get(&key_at(&rt, alloc, D1)?).is_none());
+    assert!(rt; db.get(&key_at(&rt, alloc, DISK_ONE)?).is_none());
     assert_eq!(rt;
         db.update(&mut store, &any, "node.startup", "automatic"),
         Err(DbError::StoreFault)
@@ -361,12 +361,12 @@ fn failing_write_stops_in_the_middle(rt: HostRuntime) -> Result<(), Fail> {
         Err(DbError::StoreFault)
     );
     let line = b"node.startup = automatic\n";
-    let changed = text_of(alloc, SECOND, D1, 4, line, FRESH_END)?;
+    let changed = text_of(alloc, SECOND, DISK_ONE, 4, line, FRESH_END)?;
     holds(&rt, &store, PATH1, changed.as_slice());
-    holds(&rt, &store, PATH2, fresh_text(alloc, D2)?.as_slice());
-    startup(&rt, &db, &key_at(&rt, alloc, D1)?, b"automatic");
-    startup(&rt, &db, &key_at(&rt, alloc, D2)?, b"manual");
-    let more = key(&rt, alloc, D1, "127.0.0.1:3261,7", b"if_1")?;
+    holds(&rt, &store, PATH2, fresh_text(alloc, DISK_TWO)?.as_slice());
+    startup(&rt, &db, &key_at(&rt, alloc, DISK_ONE)?, b"automatic");
+    startup(&rt, &db, &key_at(&rt, alloc, DISK_TWO)?, b"manual");
+    let more = key(&rt, alloc, DISK_ONE, "127.0.0.1:3261,7", b"if_1")?;
     assert_eq!(rt; db.new_record(&mut store, more), Err(DbError::StoreFault));
     assert_eq!(rt; db.records().len(), 3);
     Ok(())
@@ -378,7 +378,7 @@ fn session(rt: &impl Abort, alloc: Global, sid: u32, portal: &str) -> Result<Ses
         portal,
         tag,
         iface,
-    } = key(rt, alloc, D1, portal, b"default")?;
+    } = key(rt, alloc, DISK_ONE, portal, b"default")?;
     let current = portal.copy(alloc)?;
     let key = SessionKey {
         target,
@@ -409,7 +409,7 @@ fn living_sessions_keep_their_records(rt: HostRuntime) -> Result<(), Fail> {
     );
     assert_eq!(rt; db.records().len(), 3);
     assert!(rt; store.text_at(PATH1).is_some());
-    let free = of_target(&rt, alloc, D2);
+    let free = of_target(&rt, alloc, DISK_TWO);
     assert_eq!(rt; db.delete(&mut store, &free, &living), Ok(1));
     assert_eq!(rt; store.text_at(PATH2), None);
     Ok(())
@@ -442,10 +442,10 @@ fn filters_and_order(rt: HostRuntime) -> Result<(), Fail> {
     let mut store = empty_store(alloc);
     let mut db = load(&rt, alloc, &mut store);
     let keys: [(&str, &str, &[u8]); 5] = [
-        (D1, "127.0.0.1:860,1", b"default"),
-        (D1, "127.0.0.1:3260,1", b"default"),
-        (D1, "127.0.0.1:3260,2", b"default"),
-        (D1, "127.0.0.1:3260,2", b"if_1"),
+        (DISK_ONE, "127.0.0.1:860,1", b"default"),
+        (DISK_ONE, "127.0.0.1:3260,1", b"default"),
+        (DISK_ONE, "127.0.0.1:3260,2", b"default"),
+        (DISK_ONE, "127.0.0.1:3260,2", b"if_1"),
         (
             "iqn.2024-01.org.example:d1.a",
             "127.0.0.1:860,1",
@@ -470,7 +470,7 @@ fn filters_and_order(rt: HostRuntime) -> Result<(), Fail> {
     finds(&rt, alloc, &loaded, &filter, &[0, 1, 2, 3, 4])?;
     filter.iface = Some(named(alloc, b"default")?);
     finds(&rt, alloc, &loaded, &filter, &[0, 1, 2, 4])?;
-    filter.target = Some(name(&rt, alloc, D1));
+    filter.target = Some(name(&rt, alloc, DISK_ONE));
     finds(&rt, alloc, &loaded, &filter, &[0, 1, 2])?;
     let Ok((portal, _)) = Portal::read(alloc, "127.0.0.1") else {
         panic!(&rt; "no portal");
@@ -489,7 +489,7 @@ fn marked_record(rt: HostRuntime) -> Result<(), Fail> {
     let alloc = rt.alloc();
     let mut store = empty_store(alloc);
     let mut db = load(&rt, alloc, &mut store);
-    let key = key_at(&rt, alloc, D1)?;
+    let key = key_at(&rt, alloc, DISK_ONE)?;
     assert_eq!(rt;
         db.new_marked(&mut store, key, "oi.polled", "127.0.0.1:3260"),
         Ok(true)
@@ -499,22 +499,22 @@ fn marked_record(rt: HostRuntime) -> Result<(), Fail> {
         &rt,
         &store,
         PATH1,
-        text_of(alloc, SECOND, D1, NOWHERE, b"", end)?.as_slice(),
+        text_of(alloc, SECOND, DISK_ONE, NOWHERE, b"", end)?.as_slice(),
     );
-    let again = key_at(&rt, alloc, D1)?;
+    let again = key_at(&rt, alloc, DISK_ONE)?;
     assert_eq!(rt;
         db.new_marked(&mut store, again, "oi.polled", "127.0.0.1:3261"),
         Ok(false)
     );
     assert_eq!(rt;
-        db.new_record(&mut store, key_at(&rt, alloc, D1)?),
+        db.new_record(&mut store, key_at(&rt, alloc, DISK_ONE)?),
         Ok(false)
     );
     holds(
         &rt,
         &store,
         PATH1,
-        text_of(alloc, SECOND, D1, NOWHERE, b"", end)?.as_slice(),
+        text_of(alloc, SECOND, DISK_ONE, NOWHERE, b"", end)?.as_slice(),
     );
     Ok(())
 }
@@ -565,8 +565,8 @@ fn path_that_went_away_is_passed_over(rt: HostRuntime) -> Result<(), Fail> {
     };
     let db = load(&rt, alloc, &mut store);
     assert_eq!(rt; db.records().len(), 2);
-    assert!(rt; db.get(&key_at(&rt, alloc, D1)?).is_some());
-    assert!(rt; db.get(&key_at(&rt, alloc, D2)?).is_some());
+    assert!(rt; db.get(&key_at(&rt, alloc, DISK_ONE)?).is_some());
+    assert!(rt; db.get(&key_at(&rt, alloc, DISK_TWO)?).is_some());
     Ok(())
 }
 
