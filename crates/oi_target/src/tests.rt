@@ -152,6 +152,8 @@ const CAPACITY: (u32, u32, u32) = (0x2500_0000, 0, 0);
 // 586 blocks and 600 blocks, from the first one.
 const WRITE: (u32, u32, u32) = (0x2a00_0000, 0x0000_0002, 0x4a00_0000);
 
+const READ: (u32, u32, u32) = (0x2800_0000, 0x0000_0002, 0x5800_0000);
+
 fn data_out(alloc: Global, tag: u32, ttt: u32, offset: u32, data: &[u8]) -> Result<Vec<u8>, Fail> {
     pdu(
         alloc,
@@ -237,6 +239,63 @@ fn a_write_by_two_asks(rt: HostRuntime) -> Result<(), Fail> {
         (out[0], out[1], out[2], out[3], out[39]),
         (0x21, 0x80, 0, 0, 2)
     );
+    Ok(())
+}
+
+// 307,200 bytes in five pieces: the fourth one ends the first sequence, the fifth one the command.
+#[test]
+fn a_read_of_two_sequences(rt: HostRuntime) -> Result<(), Fail> {
+    let a = rt.alloc();
+    let mut bench = Bench::new(a, None)?;
+    assert_eq!(rt; bench.logged_in(1, 1, FIRST)?, Fed::Going);
+    let bytes = command(a, 5, 1, READ, 0xc1, 307_200, NOTHING)?;
+    assert_eq!(rt; bench.meets(1, &bytes, 48)?, Fed::Going);
+    let out = bench.out.as_slice();
+    assert_eq!(rt; out.len(), 307_200 + 5 * 48);
+    for (place, flags, number) in [
+        (0, 0x00, 0),
+        (65_584, 0x00, 1),
+        (131_168, 0x00, 2),
+        (196_752, 0x80, 3),
+        (262_336, 0x81, 4),
+    ] {
+        assert_eq!(rt;
+            (out[place], out[place + 1], out[place + 39]),
+            (0x25, flags, number)
+        );
+    }
+    Ok(())
+}
+
+fn abort(alloc: Global, tag: u32, referenced: u32) -> Result<Vec<u8>, Fail> {
+    pdu(
+        alloc,
+        [0x42, 0x81],
+        &[(16, tag), (20, referenced), (24, 3), (28, 3)],
+        NOTHING,
+    )
+}
+
+// A write that waits for data is aborted; the command behind it is executed then. A second abort finds no task.
+#[test]
+fn an_aborted_write(rt: HostRuntime) -> Result<(), Fail> {
+    let a = rt.alloc();
+    let mut bench = Bench::new(a, None)?;
+    assert_eq!(rt; bench.logged_in(1, 1, FIRST)?, Fed::Going);
+    let bytes = command(a, 5, 1, WRITE, 0xa1, 300_032, NOTHING)?;
+    bench.meets(1, &bytes, 48)?;
+    let bytes = command(a, 6, 2, CAPACITY, 0xc1, 8, NOTHING)?;
+    bench.meets(1, &bytes, 48)?;
+    assert!(rt; bench.out.is_empty());
+    let bytes = abort(a, 9, 5)?;
+    assert_eq!(rt; bench.meets(1, &bytes, 48)?, Fed::Going);
+    let out = bench.out.as_slice();
+    assert_eq!(rt; out.len(), 48 + 56);
+    assert_eq!(rt; (out[0], out[2], out[48], out[49]), (0x22, 0, 0x25, 0x81));
+    let bytes = abort(a, 9, 5)?;
+    assert_eq!(rt; bench.meets(1, &bytes, 48)?, Fed::Going);
+    assert_eq!(rt; bench.out.len(), 48);
+    assert_eq!(rt; (bench.out[0], bench.out[2]), (0x22, 1));
     Ok(())
 }
 
