@@ -43,7 +43,7 @@ impl Bench {
         };
         Ok(Bench {
             alloc,
-            session: Session::new(alloc, nexus, false, LIMITS, numbers),
+            session: Session::new(alloc, nexus, LIMITS, numbers),
             units: Units::new(alloc, &[1024])?,
             held: VecDeque::new(alloc),
             out: Vec::new(alloc),
@@ -57,7 +57,6 @@ impl Bench {
         receive(
             &mut self.session,
             &mut self.units,
-            &[],
             &mut self.held,
             Pdu { head, payload },
             &mut self.out,

@@ -1,6 +1,0 @@
-pub mod Courses
-pub mod Events
-pub mod Feeding
-pub mod Runs
-pub mod Steps
-pub mod Targets

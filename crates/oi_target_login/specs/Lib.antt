@@ -1,6 +1,0 @@
-pub mod Answers
-pub mod Chap
-pub mod Logins
-pub mod Names
-pub mod Runs
-pub mod Texts
