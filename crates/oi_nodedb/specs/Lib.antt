@@ -1,4 +1,0 @@
-pub mod Answers
-pub mod Databases
-pub mod Filters
-pub mod Loads
