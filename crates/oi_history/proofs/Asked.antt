@@ -1,5 +1,5 @@
 -- Which request is owed, found without a release of tags.
-use Rattle.std.proofs.Common.{◌≡◌, ◌∙◌, ◌==◌, ◌&&◌, ◌||◌, ◌↔◌, ◌⊎◌, inl, inr, ℕ, Bool, true, false, not, List, [], ◌∷◌, Option, Some, None, sym, ap, subst, refl, arith, is_none, is_some, filter, if◌then◌else◌}
+use Rattle.std.proofs.Common.{◌≡◌, ◌∙◌, ◌==◌, ◌&&◌, ◌||◌, ◌↔◌, ◌⊎◌, inl, inr, ℕ, Bool, true, false, not, List, [], ◌∷◌, Option, Some, None, sym, ap, subst, refl, is_none, is_some, filter, if◌then◌else◌}
 use Rattle.std.proofs.lemmas.Bool.{true≢false}
 use Rattle.oi_base.specs.TagLayout.{reserved_tag}
 use Rattle.oi_base.specs.declared.tag.Tag.{Tag}
@@ -10,7 +10,7 @@ use Rattle.oi_history.specs.Owing.{drawn_next, drawn_with, echo_next, issue_next
 use Rattle.oi_history.specs.Phases.{has_connection}
 use Rattle.oi_history.specs.declared.config.SessionConfig.{SessionConfig}
 use Rattle.oi_history.specs.declared.event.Event.{Event}
-use Rattle.oi_history.specs.declared.event.Event.TheVariants.{Push, Issue, Draw, Reap, Manage, Nop, Logout}
+use Rattle.oi_history.specs.declared.event.Event.TheVariants.{Issue, Reap, Manage, Nop, Logout}
 use Rattle.oi_history.specs.declared.event.Subject.{Subject}
 use Rattle.oi_history.specs.declared.event.Subject.TheVariants.{Task as OneTask, Lun, Whole}
 use Rattle.oi_history.specs.declared.owed.Echo.{Echo}

@@ -1,5 +1,9 @@
 -- How rules are judged, one by one.
-use Rattle.std.proofs.Common.{◌≡◌, ◌∙◌, ◌+◌, ◌<◌, ◌==◌, ◌&&◌, ◌↔◌, ◌⊎◌, inl, inr, ℕ, Bool, true, false, not, IsTrue, List, [], ◌∷◌, ◌++◌, length, count_by, Option, Some, None, sym, subst, ap, refl, arith, length-append, filter}
+use Rattle.std.proofs.Common.{◌≡◌, ◌∙◌, ◌+◌, ◌&&◌, ◌↔◌, inl, inr, ℕ, Bool, true, false, IsTrue, List, [], ◌∷◌, length, count_by, Option, Some, None, sym, subst, ap, refl, arith, length-append, filter, nat_lt, slice_get}
+use Rattle.std.proofs.lemmas.List.Quantifiers.{position-Some}
+use Rattle.std.proofs.lemmas.Option.{get_or_from_slice_get}
+use Rattle.oi_history.specs.Owing.{live_on_lun, sendable}
+use Rattle.oi_history.specs.Submitted.{Waits}
 use Rattle.std.proofs.lemmas.List.Sums.{length-filter}
 use Rattle.std.proofs.lemmas.Bool.{false≢true}
 use Rattle.oi_history.specs.Judging.{IsJudged, first_broken}
@@ -7,7 +11,7 @@ use Rattle.oi_history.specs.Ledgers.{CanAdvance, CanStep, IsLogin}
 use Rattle.oi_history.specs.Legality.{IsAbove}
 use Rattle.oi_history.specs.Meanings.{Meanings, meanings}
 use Rattle.oi_history.specs.Permitted.{Breaks, Comes, DrawsAll, Fails, GoesOn, HandsOut, HasCause, IsAsked, IsFirstEnded, IsHeeded, IsNextCommand, IsNextData, IsNextLogin, IsNumbered, IsTagged, StandsBehind}
-use Rattle.oi_history.specs.Tasks.{due_from, due_in, due_of, is_due}
+use Rattle.oi_history.specs.Tasks.{due_from, due_in, due_of, is_due, is_waiting}
 use Rattle.oi_history.specs.declared.config.SessionConfig.{SessionConfig}
 use Rattle.oi_history.specs.declared.event.Event.{Event}
 use Rattle.oi_history.specs.declared.event.Event.TheVariants.{Issue, Login}
@@ -118,14 +122,30 @@ can_login : (m : Meanings) (e : Event) → IsNextLogin m e → IsLogin e
 can_login m (Login generation params cmdsn max exp_stat) h = (omega (arith, h.0), h.1)
 can_login m e h = tt
 
+and_first : (b c : Bool) → (b && c) ≡ true → b ≡ true
+and_first true c is = refl
+and_first false c is = absurd cc
+
+-- the submission whose command is next waits
+sendable_waits : (depth id : ℕ) (ts : List Task) (t : Task) → sendable depth ts ≡ Some id → slice_get ts id ≡ Some t → is_waiting t.fate ≡ true
+sendable_waits depth id ts t is there =
+    let found = position-Some (λ (x : Task). is_waiting x.fate && nat_lt (live_on_lun x.command.lun ts) depth) ts id t is in
+    let both = subst (λ (x : Task). (is_waiting x.fate && nat_lt (live_on_lun x.command.lun ts) depth) ≡ true) (get_or_from_slice_get ts id t t there) found.1 in
+    and_first (is_waiting t.fate) (nat_lt (live_on_lun t.command.lun ts) depth) both
+
 can_advance : (m : Meanings) (e : Event) → IsNumbered m e → CanAdvance e m.window
 can_advance m (Issue id generation tag cmdsn) h = h.1
 can_advance m e h = tt
 
-pub steps : (m : Meanings) (e : Event) (v : Option ℕ) (b1 b2 b3 b4 b5 b6 b7 b8 b9 b10 b11 b12 b13 b14 b15 : Bool) → v ≡ first_broken 1 (b1 ∷ b2 ∷ b3 ∷ b4 ∷ b5 ∷ b6 ∷ b7 ∷ b8 ∷ b9 ∷ b10 ∷ b11 ∷ b12 ∷ b13 ∷ b14 ∷ b15 ∷ []) → (IsTrue b4 ↔ IsNumbered m e) → (IsTrue b12 ↔ IsNextLogin m e) → v ≡ None → CanStep m e
-steps m e v b1 b2 b3 b4 b5 b6 b7 b8 b9 b10 b11 b12 b13 b14 b15 made numbered login none =
+can_wait : (C : SessionConfig) (m : Meanings) (e : Event) → IsNextCommand C m e → Waits e m.tasks
+can_wait C m (Issue id generation tag cmdsn) h = λ t there. sendable_waits C.queue_depth id m.tasks t h.0 there
+can_wait C m e h = tt
+
+pub steps : (C : SessionConfig) (m : Meanings) (e : Event) (v : Option ℕ) (b1 b2 b3 b4 b5 b6 b7 b8 b9 b10 b11 b12 b13 b14 b15 : Bool) → v ≡ first_broken 1 (b1 ∷ b2 ∷ b3 ∷ b4 ∷ b5 ∷ b6 ∷ b7 ∷ b8 ∷ b9 ∷ b10 ∷ b11 ∷ b12 ∷ b13 ∷ b14 ∷ b15 ∷ []) → (IsTrue b3 ↔ IsNextCommand C m e) → (IsTrue b4 ↔ IsNumbered m e) → (IsTrue b12 ↔ IsNextLogin m e) → v ≡ None → CanStep m e
+steps C m e v b1 b2 b3 b4 b5 b6 b7 b8 b9 b10 b11 b12 b13 b14 b15 made command numbered login none =
     let all = none_broken 1 (b1 ∷ b2 ∷ b3 ∷ b4 ∷ b5 ∷ b6 ∷ b7 ∷ b8 ∷ b9 ∷ b10 ∷ b11 ∷ b12 ∷ b13 ∷ b14 ∷ b15 ∷ []) (sym made ∙ none) in
     record {
       login = can_login m e (login.0 all.rest.rest.rest.rest.rest.rest.rest.rest.rest.rest.rest.first);
       window = can_advance m e (numbered.0 all.rest.rest.rest.first);
+      waits = can_wait C m e (command.0 all.rest.rest.first);
     }

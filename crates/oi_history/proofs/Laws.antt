@@ -1,21 +1,17 @@
 -- Laws of legal histories.
-use Rattle.std.proofs.Common.{◌≡◌, ◌<◌, ◌≤◌, ◌+◌, ◌∙◌, ℕ, suc, zero, Bool, true, false, not, ◌&&◌, ◌==◌, List, [], ◌∷◌, ◌++◌, length, map, sym, ap, subst, refl, arith, Option, Some, None, nat_lt, slice_get, if◌then◌else◌, cond}
+use Rattle.std.proofs.Common.{◌≡◌, ◌<◌, ◌≤◌, ◌+◌, ◌∙◌, ℕ, suc, zero, Bool, true, false, not, ◌&&◌, ◌==◌, List, [], ◌∷◌, ◌++◌, length, map, sym, subst, refl, arith, Option, Some, None, nat_lt, slice_get, if◌then◌else◌, cond}
 use Rattle.std.proofs.lemmas.Bool.Decides.{nat_tests}
 use Rattle.std.proofs.lemmas.Iterator.Adapters.{position_from-zero}
 use Rattle.std.specs.List.{position_from, position}
 use Rattle.std.specs.Option.{option_map_or}
-use Rattle.oi_history.specs.Acceptance.{is_current, rule_of}
-use Rattle.oi_history.specs.Commands.{command_of}
-use Rattle.oi_history.specs.Configs.{IsValidConfig}
 use Rattle.oi_history.specs.Histories.{snapshot}
-use Rattle.oi_history.specs.Legality.{IsLegal}
 use Rattle.oi_history.specs.Snapshots.{tasks_after, tasks_with}
 use Rattle.oi_history.specs.Tags.{holder}
-use Rattle.oi_history.specs.Tasks.{changed, changed_held, cut_by, cut_off, cut_task, data_reply, data_step, fresh_task, is_live_on, is_waiting, issued, replied, reply_hit, response_step, scsi_reply, settled, told_task, tries_of, waiting_in, with_piece}
+use Rattle.oi_history.specs.Tasks.{changed, cut_by, cut_task, data_reply, data_step, is_live_on, is_waiting, replied, response_step, scsi_reply, settled, told_task, tries_of, with_piece}
 use Rattle.oi_history.specs.declared.allocated.Allocated.{Allocated}
 use Rattle.oi_history.specs.declared.config.SessionConfig.{SessionConfig}
 use Rattle.oi_history.specs.declared.event.Event.{Event}
-use Rattle.oi_history.specs.declared.event.Event.TheVariants.{Submit, PduIn, Deliver, Login, Issue, Reap, Terminate}
+use Rattle.oi_history.specs.declared.event.Event.TheVariants.{Submit, PduIn, Deliver, Issue, Terminate}
 use Rattle.oi_history.specs.declared.event.Numbered.{Numbered}
 use Rattle.oi_history.specs.declared.fate.Fate.{Fate}
 use Rattle.oi_history.specs.declared.fate.Fate.TheVariants.{Waiting, Live, Done}

@@ -1,8 +1,15 @@
 pub mod Laws
 pub mod Places
 pub mod Recovered
-pub mod Ended
+pub mod Standing
+pub mod Tallied
+pub mod Issuing
+pub mod Drawing
+pub mod Among
 pub mod Stepping
 pub mod Judged
 pub mod Asked
 pub mod Traced
+pub mod Released
+pub mod Turning
+pub mod Reserved

@@ -1,7 +1,6 @@
 -- One place of a list changed, and lists changed at every place.
-use Rattle.std.proofs.Common.{◌≡◌, ◌<◌, ◌≤◌, ◌+◌, ◌∙◌, ℕ, suc, zero, List, [], ◌∷◌, ◌++◌, length, take, drop, map, sym, ap, refl, arith, add-one, append-nil, append_assoc, get_or, Option, Some, None, Result, Ok, Err, OnOk, IfOk, Bool, not, ◌&&◌, slice_get, if◌then◌else◌}
+use Rattle.std.proofs.Common.{◌≡◌, ◌<◌, ◌≤◌, ◌+◌, ◌∙◌, ℕ, suc, zero, List, [], ◌∷◌, ◌++◌, length, take, drop, map, sym, ap, refl, arith, add-one, append-nil, append_assoc, get_or, Some, None, Result, Ok, Err, OnOk, IfOk, Bool, not, ◌&&◌, slice_get, if◌then◌else◌}
 use Rattle.std.proofs.Math.ListN.{set}
-use Rattle.std.proofs.lemmas.Grind.{common_steps}
 use Rattle.std.proofs.lemmas.List.{length-take-le, take_more}
 use Rattle.std.specs.List.{range_with_len}
 use Rattle.oi_base.specs.TagLayout.{command_tag}

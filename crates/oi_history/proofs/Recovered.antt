@@ -1,5 +1,5 @@
 -- Submissions changed one after another, with their ids.
-use Rattle.std.proofs.Common.{◌≡◌, ◌∙◌, ◌+◌, ◌<◌, ◌≤◌, ℕ, suc, zero, List, [], ◌∷◌, ◌++◌, length, take, drop, sym, ap, refl, arith, add-one, get_or, Option, Some, None}
+use Rattle.std.proofs.Common.{◌≡◌, ◌∙◌, ◌+◌, ◌<◌, ◌≤◌, ℕ, suc, zero, List, [], ◌∷◌, ◌++◌, length, take, drop, sym, ap, refl, arith, add-one, get_or, Option, Some}
 use Rattle.std.proofs.Math.ListN.{set}
 use Rattle.std.specs.Option.{option_map_or}
 use Rattle.oi_history.specs.Recovering.{changed_under, map_from}

@@ -1,10 +1,10 @@
 -- A recorded history, entry by entry.
-use Rattle.std.proofs.Common.{◌≡◌, ◌∙◌, ◌+◌, ◌<◌, ℕ, List, [], ◌∷◌, ◌++◌, length, take, drop, reverse, get_or, Option, Some, None, sym, ap, subst, refl, arith, append_assoc}
-use Rattle.std.proofs.lemmas.List.{at_drop_more, reverse-append, take-append-drop, take_more}
+use Rattle.std.proofs.Common.{◌≡◌, ◌∙◌, ◌+◌, ◌<◌, ℕ, List, [], ◌∷◌, ◌++◌, length, take, drop, reverse, get_or, Option, Some, None, sym, ap, subst, refl, append_assoc}
+use Rattle.std.proofs.lemmas.List.{reverse-append, take-append-drop, take_more}
 use Rattle.oi_history.specs.Judging.{IsJudged, last_number}
 use Rattle.oi_history.specs.Ledgers.{LedgerView}
 use Rattle.oi_history.specs.Meanings.{Meanings, meanings, step}
-use Rattle.oi_history.specs.Permitted.{IsFirstIllegal, IsPermitted}
+use Rattle.oi_history.specs.Permitted.{IsFirstIllegal}
 use Rattle.oi_history.specs.Traces.{Follows, IsTraceFault}
 use Rattle.oi_history.specs.declared.config.SessionConfig.{SessionConfig}
 use Rattle.oi_history.specs.declared.event.Numbered.{Numbered}

@@ -1,5 +1,5 @@
 -- Which settings a session can have.
-use Rattle.std.specs.Prelude.{ℕ, ℤ, pos, negsuc, ◌≤◌, ◌≤ℤ◌}
+use Rattle.std.specs.Prelude.{ℕ, pos, negsuc, ◌≤◌, ◌≤ℤ◌}
 use Rattle.oi_base.specs.Limits.{least_kept, least_steps, most_commands, most_kept, most_queue_depth, most_replacement, most_seconds, most_steps}
 use Rattle.oi_history.specs.declared.config.SessionConfig.{SessionConfig}
 

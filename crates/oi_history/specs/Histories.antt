@@ -1,5 +1,5 @@
 -- A session's history: its entries, the newest first.
-use Rattle.std.specs.Prelude.{ℕ, List, [], ◌∷◌, ◌++◌, length, Option}
+use Rattle.std.specs.Prelude.{List, [], ◌∷◌, ◌++◌, length}
 use Rattle.oi_history.specs.Snapshots.{Snapshot, after, first_snapshot}
 use Rattle.oi_history.specs.Tasks.{due_in}
 use Rattle.oi_history.specs.declared.config.SessionConfig.{SessionConfig}

@@ -1,6 +1,5 @@
 -- How the plain program judges an entry.
-use Rattle.std.specs.Prelude.{◌≡◌, ◌+◌, ◌==◌, ◌&&◌, ◌||◌, ℕ, Bool, true, false, not, List, [], ◌∷◌, Option, Some, None, is_none, is_some, nat_lt, if◌then◌else◌}
-use Rattle.std.specs.List.{position}
+use Rattle.std.specs.Prelude.{◌+◌, ◌==◌, ◌&&◌, ◌||◌, ℕ, Bool, true, false, not, List, [], ◌∷◌, Option, Some, None, is_none, if◌then◌else◌}
 use Rattle.oi_base.specs.declared.tag.Tag.{Tag}
 use Rattle.oi_history.specs.Meanings.{Meanings}
 use Rattle.oi_history.specs.Owing.{next_management}
@@ -8,11 +7,7 @@ use Rattle.oi_history.specs.Permitted.{Breaks, IsPermitted}
 use Rattle.oi_history.specs.Phases.{has_connection}
 use Rattle.oi_history.specs.declared.config.SessionConfig.{SessionConfig}
 use Rattle.oi_history.specs.declared.event.Numbered.{Numbered}
-use Rattle.oi_history.specs.declared.event.Subject.{Subject}
-use Rattle.oi_history.specs.declared.event.Subject.TheVariants.{Task as OneTask, Lun, Whole}
 use Rattle.oi_history.specs.declared.owed.Queued.{Queued}
-use Rattle.oi_history.specs.declared.phase.Handler.{Handler}
-use Rattle.oi_history.specs.declared.phase.Handler.TheVariants.{Aborting, ResettingLun, ResettingTarget}
 
 -- permitted, or the least rule that it breaks
 abbrev pub IsJudged : Option ℕ → SessionConfig → List Numbered → Numbered → Type 0

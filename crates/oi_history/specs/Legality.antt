@@ -1,5 +1,5 @@
 -- A legal history: each entry was allowed by the entries before it.
-use Rattle.std.specs.Prelude.{◌≡◌, ◌≤◌, ◌<◌, ◌+◌, ℕ, Bool, true, false, List, [], ◌∷◌, Option, Some, None, length, slice_get}
+use Rattle.std.specs.Prelude.{◌≡◌, ◌≤◌, ◌<◌, ◌+◌, ℕ, true, false, List, [], ◌∷◌, Some, None, length, slice_get}
 use Rattle.oi_history.specs.Histories.{snapshot}
 use Rattle.oi_history.specs.Phases.{has_connection, is_ended, is_logged_in}
 use Rattle.oi_history.specs.Snapshots.{Snapshot}

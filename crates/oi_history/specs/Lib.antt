@@ -16,12 +16,16 @@ pub mod Recovering
 pub mod Connected
 pub mod Queues
 pub mod Locks
-pub mod Ending
+pub mod Standing
 pub mod Meanings
+pub mod Tallies
+pub mod Blows
+pub mod Submitted
 pub mod Owing
 pub mod Losses
 pub mod Permitted
 pub mod Trackers
 pub mod Ledgers
 pub mod Judging
+pub mod Releasing
 pub mod Traces

@@ -137,10 +137,10 @@ subject_lun tasks (OneTask id) = lun_of (lun_at id tasks)
 subject_lun tasks (Lun lun) = lun_of lun
 subject_lun tasks Whole = replicate 8 0
 
--- the tag and CmdSN of the task that an ABORT TASK names; a reset names none
-abbrev pub referenced : List Numbered → Subject → Allocated
-referenced H (OneTask id) = option_map_or (λ a. a) (last_issue id H) (record { tag = record { 0 = reserved_tag }; id = id; cmdsn = 0 })
-referenced H s = record { tag = record { 0 = reserved_tag }; id = 0; cmdsn = 0 }
+-- the tag and CmdSN of the last command of the task that an ABORT TASK names; a reset names none
+abbrev pub referenced : (ℕ → Option Allocated) → Subject → Allocated
+referenced last (OneTask id) = option_map_or (λ a. a) (last id) (record { tag = record { 0 = reserved_tag }; id = id; cmdsn = 0 })
+referenced last s = record { tag = record { 0 = reserved_tag }; id = 0; cmdsn = 0 }
 
 abbrev pub management_pdu : Meanings → Tag → ℕ → List ℕ → Allocated → Pdu
 management_pdu m tag function lun a = record {
@@ -169,16 +169,18 @@ logout_pdu m tag = record {
   payload = [];
 }
 
--- the PDU that an entry sends, by the history before it
+-- the PDU that an entry sends, by the meanings before it and the last command of each submission
+abbrev pub pdu_in : Meanings → (ℕ → Option Allocated) → Event → List Pdu
+pdu_in m last (Issue id generation tag cmdsn) = option_map_or (λ t. command_pdu m.params m.stat t.command tag cmdsn ∷ []) (slice_get m.tasks id) []
+pdu_in m last (Push id generation ttt number offset size last-piece) =
+    data_out m id ttt number offset size last-piece (option_map_or (λ q. Some q.tag) (slice_get m.queue 0) None) (slice_get m.tasks id)
+pdu_in m last (Manage generation tag function subject) = management_pdu m tag function (subject_lun m.tasks subject) (referenced last subject) ∷ []
+pdu_in m last (Nop generation tag ttt lun) = nop_pdu m tag ttt lun ∷ []
+pdu_in m last (Logout generation tag) = logout_pdu m tag ∷ []
+pdu_in m last e = []
+
 abbrev pub sent_by : SessionConfig → List Numbered → Event → List Pdu
-sent_by C H (Issue id generation tag cmdsn) =
-    option_map_or (λ t. command_pdu (meanings C H).params (meanings C H).stat t.command tag cmdsn ∷ []) (slice_get (meanings C H).tasks id) []
-sent_by C H (Push id generation ttt number offset size last) =
-    data_out (meanings C H) id ttt number offset size last (option_map_or (λ q. Some q.tag) (slice_get (meanings C H).queue 0) None) (slice_get (meanings C H).tasks id)
-sent_by C H (Manage generation tag function subject) = management_pdu (meanings C H) tag function (subject_lun (meanings C H).tasks subject) (referenced H subject) ∷ []
-sent_by C H (Nop generation tag ttt lun) = nop_pdu (meanings C H) tag ttt lun ∷ []
-sent_by C H (Logout generation tag) = logout_pdu (meanings C H) tag ∷ []
-sent_by C H e = []
+sent_by C H e = pdu_in (meanings C H) (λ id. last_issue id H) e
 
 -- the connection on which an entry sends
 abbrev pub sends_on : Event → Option ℕ

@@ -4,7 +4,7 @@ use Rattle.oi_history.specs.declared.event.Event.{Event}
 use Rattle.oi_history.specs.declared.event.Event.TheVariants.{Login, Terminate}
 use Rattle.oi_history.specs.declared.phase.End.{End}
 use Rattle.oi_history.specs.declared.phase.Phase.{Phase}
-use Rattle.oi_history.specs.declared.phase.Phase.TheVariants.{First, LoggedIn, Ended}
+use Rattle.oi_history.specs.declared.phase.Phase.TheVariants.{LoggedIn, Ended}
 
 -- an end is for good, and a first cause stays
 abbrev pub ended_by : End → Phase → Phase

@@ -1,5 +1,5 @@
 -- What is sent of a command (RFC 7143, section 11.3).
-use Rattle.std.specs.Prelude.{ℕ, Bool, true, false, ◌==◌, ◌-◌, List, [], Option, Some, None, min, take, if◌then◌else◌}
+use Rattle.std.specs.Prelude.{ℕ, false, ◌==◌, ◌-◌, Option, Some, None, min, take, if◌then◌else◌}
 use Rattle.oi_base.specs.declared.login.Params.{Params}
 use Rattle.oi_base.specs.declared.tag.Tag.{Tag}
 use Rattle.oi_history.specs.declared.command.Command.{Command}

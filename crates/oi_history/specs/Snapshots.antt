@@ -1,5 +1,5 @@
 -- All meanings at one point of a history, and what one entry makes of them.
-use Rattle.std.specs.Prelude.{ℕ, Bool, true, false, not, ◌==◌, ◌&&◌, ◌+◌, ◌++◌, List, [], ◌∷◌, Option, Some, None, is_none, length, map, drop, if◌then◌else◌}
+use Rattle.std.specs.Prelude.{ℕ, Bool, false, not, ◌&&◌, ◌++◌, List, [], ◌∷◌, Option, Some, None, is_none, map, drop, if◌then◌else◌}
 use Rattle.std.specs.Option.{option_map_or}
 use Rattle.oi_base.specs.Serials.{successor}
 use Rattle.oi_base.specs.declared.login.Params.{Params}
@@ -7,7 +7,7 @@ use Rattle.oi_base.specs.declared.tag.Tag.{Tag}
 use Rattle.oi_history.specs.Acceptance.{is_current, numbers_of, rule_of}
 use Rattle.oi_history.specs.Commands.{command_of}
 use Rattle.oi_history.specs.Phases.{generation_after, phase_after}
-use Rattle.oi_history.specs.Tags.{allocated_after, free_after, fresh_tags, holder}
+use Rattle.oi_history.specs.Tags.{allocated_after, free_after, fresh_tags}
 use Rattle.oi_history.specs.Tasks.{changed, changed_held, cut_off, data_step, fresh_task, held, is_live_on, issued, response_step, told_task}
 use Rattle.oi_history.specs.declared.allocated.Allocated.{Allocated}
 use Rattle.oi_history.specs.declared.config.SessionConfig.{SessionConfig}
@@ -17,7 +17,6 @@ use Rattle.oi_history.specs.declared.numbers.Numbers.{Numbers}
 use Rattle.oi_history.specs.declared.phase.Phase.{Phase}
 use Rattle.oi_history.specs.declared.rule.Rule.{Rule}
 use Rattle.oi_history.specs.declared.task.Task.{Task}
-use Rattle.oi_pdu.specs.declared.codec.Pdu.{Pdu}
 use Rattle.oi_pdu.specs.declared.header.Header.{Header}
 use Rattle.oi_pdu.specs.declared.header.Header.TheVariants.{ScsiResponse, DataIn}
 use Rattle.oi_window.specs.Numbering.{window_advanced, window_after, window_at}

@@ -1,6 +1,6 @@
 -- Initiator task tags of commands (RFC 7143, section 11.2.1.8): allocated from the command until they are released, and
 -- free otherwise.
-use Rattle.std.specs.Prelude.{ℕ, Bool, not, ◌==◌, ◌++◌, List, [], ◌∷◌, Option, Some, None, drop, filter, map, slice_get, if◌then◌else◌}
+use Rattle.std.specs.Prelude.{ℕ, not, ◌==◌, ◌++◌, List, [], ◌∷◌, Option, Some, None, drop, filter, map, if◌then◌else◌}
 use Rattle.std.specs.List.{range_with_len}
 use Rattle.oi_base.specs.TagLayout.{age_after, command_tag}
 use Rattle.oi_base.specs.declared.tag.Tag.{Tag}

@@ -1,5 +1,5 @@
 -- One submission: what an event makes of it, by the recovery table.
-use Rattle.std.specs.Prelude.{ℕ, Bool, true, false, not, ◌==◌, ◌&&◌, ◌+◌, ◌++◌, List, [], ◌∷◌, Option, Some, None, length, map, slice_get, if◌then◌else◌, suc, zero}
+use Rattle.std.specs.Prelude.{ℕ, Bool, true, false, not, ◌==◌, ◌&&◌, ◌+◌, ◌++◌, List, [], ◌∷◌, Option, length, slice_get, if◌then◌else◌, suc, zero}
 use Rattle.std.specs.Option.{option_and_then, option_map_or}
 use Rattle.std.specs.List.{position}
 use Rattle.oi_base.specs.Serials.{successor}
@@ -10,7 +10,6 @@ use Rattle.oi_history.specs.declared.command.Command.{Command}
 use Rattle.oi_history.specs.declared.fate.Delivered.{Delivered}
 use Rattle.oi_history.specs.declared.fate.Fate.{Fate}
 use Rattle.oi_history.specs.declared.fate.Fate.TheVariants.{Waiting, Live, Done}
-use Rattle.oi_history.specs.declared.fate.Outcome.{Outcome}
 use Rattle.oi_history.specs.declared.fate.Outcome.TheVariants.{Answered, Host}
 use Rattle.oi_history.specs.declared.reply.ReplyData.{ReplyData}
 use Rattle.oi_history.specs.declared.task.Task.{Task}

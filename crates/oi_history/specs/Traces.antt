@@ -7,7 +7,6 @@ use Rattle.oi_history.specs.Permitted.{ArePermitted, IsFirstIllegal}
 use Rattle.oi_history.specs.declared.config.SessionConfig.{SessionConfig}
 use Rattle.oi_history.specs.declared.event.Numbered.{Numbered}
 use Rattle.oi_history.specs.declared.fate.Fate.{Fate}
-use Rattle.oi_history.specs.declared.task.Task.{Task}
 use Rattle.oi_history.specs.declared.trace.TraceFault.{TraceFault}
 use Rattle.oi_history.specs.declared.trace.TraceFault.TheVariants.{Illegal, Memory}
 

@@ -1,5 +1,5 @@
 -- The course and the connection as the code keeps them.
-use Rattle.std.specs.Prelude.{ℕ, Bool, List}
+use Rattle.std.specs.Prelude.{Bool, List}
 use Rattle.oi_history.specs.Connected.{heard_step, leaving_step, logged_out_step, logout_step, managed_step, ping_step}
 use Rattle.oi_history.specs.Courses.{clock_step, phase_step}
 use Rattle.oi_history.specs.Handling.{handler_step}

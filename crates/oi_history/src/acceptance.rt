@@ -1,6 +1,7 @@
-ghost use Rattle.std.specs.Prelude.{◌≡◌, Some, None};
+ghost use Rattle.std.specs.Prelude.{◌≡◌, ◌<◌, ◌+◌, ◌^◌, Some, None};
 ghost use Rattle.std.specs.Option.{option_copied};
 ghost use Rattle.oi_history.specs.Acceptance.{data_rule, known_rule, live_data_rule, numbers_of, r2t_rule, reject_rule, returned_tag, rule_of};
+ghost use Rattle.oi_history.specs.Ledgers.{EndsWithin};
 ghost use Rattle.oi_history.specs.Tags.{holder};
 ghost use Rattle.oi_history.specs.Tasks.{held};
 
@@ -98,7 +99,8 @@ fn data_rule(task: Option<&Task>, h: DataIn, payload: &[u8]) -> Option<Rule>
 }
 
 fn r2t_rule(task: Option<&Task>, h: R2t) -> Option<Rule>
-    ensures { result ≡ r2t_rule (option_copied task.entry) h }
+    ensures rule { result ≡ r2t_rule (option_copied task.entry) h }
+    ensures within { result ≡ None → h.offset + h.length < 2 ^ 32 }
 {
     match task {
         None => Some(Rule::UnknownTag),
@@ -135,7 +137,8 @@ fn reject_rule(busy: &[Allocated], tasks: &[Task], payload: &[u8]) -> Option<Rul
 
 /// The first rule that a PDU breaks.
 pub fn rule_of(busy: &[Allocated], tasks: &[Task], head: &Header, payload: &[u8]) -> Option<Rule>
-    ensures { result ≡ rule_of busy.now tasks.now head.now payload.now }
+    ensures rule { result ≡ rule_of busy.now tasks.now head.now payload.now }
+    ensures within { result ≡ None → EndsWithin head.now }
 {
     match head {
         Header::DataIn(h) => data_rule(held(busy, tasks, h.tag), *h, payload),

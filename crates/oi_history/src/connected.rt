@@ -1,6 +1,8 @@
-ghost use Rattle.std.specs.Prelude.{◌≡◌, ◌++◌, ◌<◌, ◌+◌, ◌-◌, ◌^◌, ◌≤◌, ◌∷◌, [], OnOk, drop};
+ghost use Rattle.std.specs.Prelude.{◌≡◌, ◌++◌, ◌<◌, ◌+◌, ◌-◌, ◌^◌, ◌≤◌, ◌∷◌, [], None, drop, vec_len};
+ghost use Rattle.std.specs.Vec.{vec_capacity};
 ghost use Rattle.oi_base.specs.TagLayout.{age_after, management_tag};
 ghost use Rattle.oi_history.specs.Connected.{asked_step, asked_told, echoes_step, echoes_told, given_rule, heard_step, is_given, is_its_tag, is_logout_response, leaving_step, logged_out_step, logout_step, managed_step, ping_step, ping_told, rule_on};
+ghost use Rattle.oi_history.specs.Ledgers.{EndsWithin, heard_by};
 
 use crate::acceptance::rule_of;
 use crate::allocated::Allocated;
@@ -8,7 +10,7 @@ use crate::event::Event;
 use crate::owed::{Echo, Ping};
 use crate::rule::Rule;
 use crate::task::Task;
-use oi_base::{NoMemory, Tag, TagKind, age_of};
+use oi_base::{Tag, TagKind, age_of};
 use oi_pdu::Header;
 
 const RESERVED: u32 = u32::MAX;
@@ -156,7 +158,8 @@ pub fn rule_on(
     head: &Header,
     payload: &[u8],
 ) -> Option<Rule>
-    ensures { result ≡ rule_on generation managed busy.now tasks.now head.now payload.now }
+    ensures rule { result ≡ rule_on generation managed busy.now tasks.now head.now payload.now }
+    ensures within { result ≡ None → EndsWithin head.now }
 {
     match head {
         Header::NopIn(h) if h.tag.0 == RESERVED => None,
@@ -167,19 +170,19 @@ pub fn rule_on(
     }
 }
 
-fn hear_echo(echoes: &mut Vec<Echo>, head: &Header) -> Result<(), NoMemory>
-    ensures { OnOk result (echoes.new.items ≡ echoes_told head.now echoes.old.items) }
+fn hear_echo(echoes: &mut Vec<Echo>, head: &Header)
+    requires { vec_len echoes.old < vec_capacity echoes.old }
+    ensures { echoes.new.items ≡ echoes_told head.now echoes.old.items }
 {
     let Header::NopIn(h) = head else {
-        return Ok(());
+        return;
     };
     if h.tag.0 == RESERVED && h.ttt != RESERVED {
-        echoes.push(Echo {
+        echoes.push_reserved(Echo {
             ttt: h.ttt,
             lun: h.lun,
-        })?;
+        });
     }
-    Ok(())
 }
 
 fn drop_first(echoes: &mut Vec<Echo>)
@@ -191,42 +194,35 @@ fn drop_first(echoes: &mut Vec<Echo>)
 }
 
 /// NOP-Ins that wait for their answer.
-pub fn echoes_step(echoes: &mut Vec<Echo>, accepted: bool, event: &Event) -> Result<(), NoMemory>
-    ensures { OnOk result (echoes.new.items ≡ echoes_step accepted event.now echoes.old.items) }
+pub fn echoes_step(echoes: &mut Vec<Echo>, accepted: bool, event: &Event)
+    requires { vec_len echoes.old + heard_by event.now ≤ vec_capacity echoes.old }
+    ensures { echoes.new.items ≡ echoes_step accepted event.now echoes.old.items }
 {
     match event {
-        Event::Login { .. } | Event::Lost { .. } => {
-            echoes.clear();
-            Ok(())
-        }
-        Event::Nop { tag, .. } if *tag == RESERVED => {
-            drop_first(echoes);
-            Ok(())
-        }
+        Event::Login { .. } | Event::Lost { .. } => echoes.clear(),
+        Event::Nop { tag, .. } if *tag == RESERVED => drop_first(echoes),
         Event::PduIn { pdu, .. } if accepted => hear_echo(echoes, &pdu.head),
-        _ => Ok(()),
+        _ => {}
     }
 }
 
-fn hear_async(asked: &mut Vec<u8>, head: &Header) -> Result<(), NoMemory>
-    ensures { OnOk result (asked.new.items ≡ asked_told head.now asked.old.items) }
+fn hear_async(asked: &mut Vec<u8>, head: &Header)
+    requires { vec_len asked.old < vec_capacity asked.old }
+    ensures { asked.new.items ≡ asked_told head.now asked.old.items }
 {
     if let Header::Async(h) = head {
-        asked.push(h.event)?;
+        asked.push_reserved(h.event);
     }
-    Ok(())
 }
 
 /// Events of Async Messages that counted on the connection.
-pub fn asked_step(asked: &mut Vec<u8>, accepted: bool, event: &Event) -> Result<(), NoMemory>
-    ensures { OnOk result (asked.new.items ≡ asked_step accepted event.now asked.old.items) }
+pub fn asked_step(asked: &mut Vec<u8>, accepted: bool, event: &Event)
+    requires { vec_len asked.old + heard_by event.now ≤ vec_capacity asked.old }
+    ensures { asked.new.items ≡ asked_step accepted event.now asked.old.items }
 {
     match event {
-        Event::Login { .. } => {
-            asked.clear();
-            Ok(())
-        }
+        Event::Login { .. } => asked.clear(),
         Event::PduIn { pdu, .. } if accepted => hear_async(asked, &pdu.head),
-        _ => Ok(()),
+        _ => {}
     }
 }

@@ -3,24 +3,24 @@ use crate::allocated::Allocated;
 use crate::config::SessionConfig;
 use crate::connected::{asked_step, echoes_step, next_number, rule_on};
 use crate::course::{has_connection, is_ended, is_fail_fast, is_logged_in};
-use crate::ending::live_tags;
 use crate::event::{Event, Numbered, Subject};
 use crate::fate::Fate;
 use crate::handling::{is_live, is_spent};
 use crate::ledger_steps::{
-    broken_step, busy_step, counts, ended_step, free_step, generation_step, is_joint, params_step,
-    queue_step, solicited_step, stat_step, tasks_step, told_step, window_step,
+    broken_step, busy_step, counts, free_step, generation_step, is_joint, params_step, queue_step,
+    solicited_step, stat_step, task_at, told_step, window_step,
 };
 use crate::owed::{Echo, Queued, Solicited, Told};
 use crate::phase::{Handler, LostCause, Phase};
 use crate::reply::is_done;
 use crate::rule::Rule;
 use crate::rules::{
-    are_over, asked_by, asks_for, asks_nothing, drawable, due, first_broken, first_echo,
-    first_queued, is_above, is_answer, is_broken_by, is_first, is_front, is_held, is_place,
-    is_send, is_timed_out, is_whole, rests, sendable, sends,
+    asked_by, asks_for, asks_nothing, drawable, due, first_broken, first_echo, first_queued,
+    is_above, is_answer, is_broken_by, is_front, is_held, is_place, is_send, is_tag, is_timed_out,
+    is_whole, rests, sendable, sends,
 };
-use crate::tables::{fates_of, fresh_tags};
+use crate::submissions::Submissions;
+use crate::tables::fresh_tags;
 use crate::task::Task;
 use crate::tracker::Tracker;
 use oi_base::{NoMemory, Params, Serial, Series, Tag};
@@ -29,31 +29,31 @@ use oi_window::Window;
 use std::alloc::Global;
 use std::collections::VecDeque;
 use std::marker::Model;
-use std::mem;
 
 /// All meanings of a session, kept entry by entry: the plain program beside the words of a whole session.
 #[derive(Debug, Drop)]
 pub struct Ledger {
-    alloc: Global,
-    config: SessionConfig,
-    tracker: Tracker,
-    generation: u64,
-    params: Option<Params>,
-    window: Window,
-    stat: u32,
-    told: Told,
-    broken: Option<Rule>,
-    echoes: Vec<Echo>,
-    asked: Vec<u8>,
-    free: VecDeque<Tag>,
-    busy: Vec<Allocated>,
-    ended: Vec<Tag>,
-    queue: Vec<Queued>,
-    solicited: Vec<Solicited>,
-    tasks: Vec<Task>,
+    pub(crate) config: SessionConfig,
+    pub(crate) tracker: Tracker,
+    pub(crate) generation: u64,
+    pub(crate) params: Option<Params>,
+    pub(crate) window: Window,
+    pub(crate) stat: u32,
+    pub(crate) told: Told,
+    pub(crate) broken: Option<Rule>,
+    pub(crate) echoes: Vec<Echo>,
+    pub(crate) asked: Vec<u8>,
+    pub(crate) free: VecDeque<Tag>,
+    pub(crate) busy: Vec<Allocated>,
+    pub(crate) queue: VecDeque<Queued>,
+    pub(crate) solicited: Vec<Solicited>,
+    pub(crate) submissions: Submissions,
 }
 
 impl Model for Ledger {
+    ghost use Rattle.std.specs.Prelude.{◌≡◌, ◌-◌, min, vec_len};
+    ghost use Rattle.std.specs.Vec.{vec_capacity};
+    ghost use Rattle.std.specs.VecDeque.{deque_capacity, deque_len};
     ghost use Rattle.oi_history.specs.Configs.{IsValidConfig};
     ghost use Rattle.oi_history.specs.Ledgers.{AreWithin, HasSegment, LedgerView};
 
@@ -81,18 +81,22 @@ impl Model for Ledger {
         handler = l.tracker.handler;
         free = l.free.items;
         busy = l.busy.items;
-        ended = l.ended.items;
+        ended = l.submissions.ended;
         queue = l.queue.items;
         solicited = l.solicited.items;
-        tasks = l.tasks.items;
+        tasks = l.submissions.tasks;
       };
+      releases = deque_capacity l.free - deque_len l.free;
+      takes = min (vec_capacity l.busy - vec_len l.busy) l.submissions.takes;
+      pieces = deque_capacity l.queue - deque_len l.queue;
+      hears = min (vec_capacity l.solicited - vec_len l.solicited) (min (vec_capacity l.echoes - vec_len l.echoes) (vec_capacity l.asked - vec_len l.asked));
     } };
 
-    ghost invariant = { λ l. IsValidConfig l.config × HasSegment l.params × AreWithin l.solicited.items };
+    ghost invariant = { λ l. IsValidConfig l.config × HasSegment l.params × AreWithin l.solicited.items × (l.submissions.allowed ≡ l.config.tries) };
 }
 
 impl Ledger {
-    ghost use Rattle.std.specs.Prelude.{◌≡◌, ◌<◌, ◌==◌, ◌↔◌, ◌⊎◌, ◌∷◌, [], IfOk, IsTrue, List, None, OnOk, Some, is_some, map, slice_get};
+    ghost use Rattle.std.specs.Prelude.{◌≡◌, ◌≤◌, ◌<◌, ◌+◌, ◌==◌, ◌↔◌, ◌⊎◌, ◌∷◌, [], IfOk, IsOk, IsTrue, OnErr, false, true, length, List, None, OnOk, Some, is_some, map, slice_get};
     ghost use Rattle.std.specs.List.{position};
     ghost use Rattle.std.specs.Option.{option_copied, option_map_or};
     ghost use Rattle.oi_base.specs.Limits.{most_management_tags};
@@ -105,21 +109,23 @@ impl Ledger {
     ghost use Rattle.oi_history.specs.Permitted.{Comes, DrawsAll, GoesOn, HandsOut, HasCause, IsAsked, IsFirstEnded, IsHeeded, IsNextCommand, IsNextData, IsNextLogin, IsNumbered, IsTagged, StandsBehind};
     ghost use Rattle.oi_timers.specs.Ping.{ping_due};
     ghost use Rattle.oi_history.specs.Configs.{IsValidConfig};
+    ghost use Rattle.oi_base.specs.declared.tag.Tag.{Tag};
     ghost use Rattle.oi_history.specs.Connected.{asked_step, echoes_step};
-    ghost use Rattle.oi_history.specs.Ledgers.{CanStep, IsLogin};
+    ghost use Rattle.oi_history.specs.Ledgers.{CanStep, IsLogin, IsWithin, LeavesRoom, NeedsNoMemory, freed_by, heard_by, is_login, queued_in, released_by};
     ghost use Rattle.oi_history.specs.Meanings.{allocated_step, ended_step, first_meanings, is_current_in, meanings, rule_in, step};
     ghost use Rattle.oi_history.specs.Queues.{queue_step, solicited_step};
+    ghost use Rattle.oi_history.specs.Submitted.{Waits, brings, taken_by};
     ghost use Rattle.oi_history.specs.Recovering.{tasks_step};
     ghost use Rattle.oi_history.specs.Tags.{free_after};
 
     /// Before the first entry.
     pub fn new(alloc: Global, config: SessionConfig) -> Result<Ledger, NoMemory>
         requires { IsValidConfig config }
-        ensures { IfOk result (λ l. l ≡ record { config = config; now = first_meanings config }) }
+        ensures config { IfOk result (λ l. l.config ≡ config) }
+        ensures now { IfOk result (λ l. l.now ≡ first_meanings config) }
     {
         let free = fresh_tags(alloc, 0, config.cmds_max)?;
         Ok(Ledger {
-            alloc,
             config,
             tracker: Tracker {
                 clock: 0,
@@ -145,10 +151,9 @@ impl Ledger {
             asked: Vec::new(alloc),
             free,
             busy: Vec::new(alloc),
-            ended: Vec::new(alloc),
-            queue: Vec::new(alloc),
+            queue: VecDeque::new(alloc),
             solicited: Vec::new(alloc),
-            tasks: Vec::new(alloc),
+            submissions: Submissions::new(alloc, config.tries),
         })
     }
 
@@ -181,7 +186,7 @@ impl Ledger {
     pub fn task(&self, id: u64) -> Option<&Task>
         ensures { option_copied result ≡ slice_get self.now.now.tasks id }
     {
-        self.tasks.get(id as usize)
+        task_at(self.submissions.tasks(), id)
     }
 
     // The PDU of an event is on the live connection, unbroken so far.
@@ -201,14 +206,15 @@ impl Ledger {
 
     // The rule that the PDU of an event breaks.
     fn rule(&self, event: &Event) -> Option<Rule>
-        ensures { result ≡ rule_in event.now self.now.now }
+        ensures rule { result ≡ rule_in event.now self.now.now }
+        ensures within { result ≡ None → IsWithin event.now }
     {
         match event {
             Event::PduIn { pdu, .. } => rule_on(
                 self.generation,
                 self.tracker.managed,
                 &self.busy,
-                &self.tasks,
+                self.submissions.tasks(),
                 &pdu.head,
                 pdu.payload.as_slice(),
             ),
@@ -216,11 +222,14 @@ impl Ledger {
         }
     }
 
-    /// One entry more. After want of memory the ledger is of no use.
+    /// One entry more. Without memory nothing changes.
     pub fn step(&mut self, entry: &Numbered) -> Result<(), NoMemory>
         requires { CanStep self.old.now entry.now.event }
         ensures config { self.new.config ≡ self.old.config }
         ensures now { OnOk result (self.new.now ≡ step self.old.config entry.now.event entry.now.number self.old.now) }
+        ensures room { OnOk result (LeavesRoom self.old self.new entry.now.event) }
+        ensures err { OnErr result (self.new.now ≡ self.old.now) }
+        ensures succeeds { NeedsNoMemory self.old entry.now.event → IsOk result }
     {
         let event = &entry.event;
         let current = self.is_current(event);
@@ -228,7 +237,7 @@ impl Ledger {
         let accepted = counts(current, rule);
         let tracker = self
             .tracker
-            .step(&self.config, accepted, &self.tasks, event);
+            .step(&self.config, accepted, self.submissions.tasks(), event);
         let stat = stat_step(accepted, event, self.stat);
         let told = self.told;
         let joint = is_joint(is_fail_fast(self.tracker.phase), told.pending, event);
@@ -236,10 +245,12 @@ impl Ledger {
         let broken = broken_step(current, rule, event, self.broken);
         let generation = generation_step(event, self.generation);
         let params = params_step(event, self.params);
-        self.step_queue(accepted, event)?;
-        self.step_tasks(accepted, entry)?;
-        self.step_tags(accepted, event)?;
-        self.told = told_step(joint, event, stat, &self.tasks, told);
+        self.reserve(event)?;
+        self.step_submissions(accepted, entry)?;
+        self.step_queue(event);
+        self.step_heard(accepted, event);
+        self.step_free(event);
+        self.told = told_step(joint, event, stat, self.submissions.pending(), told);
         self.window = window;
         self.broken = broken;
         self.generation = generation;
@@ -249,42 +260,26 @@ impl Ledger {
         Ok(())
     }
 
-    // Data that wait, and R2Ts.
-    fn step_queue(&mut self, accepted: bool, event: &Event) -> Result<(), NoMemory>
-        ensures config { self.new.config ≡ self.old.config }
-        ensures now { OnOk result (self.new.now ≡ record self.old.now {
-          queue = queue_step self.old.now.params self.old.now.busy self.old.now.tasks self.old.now.solicited event.now self.old.now.queue;
-          solicited = solicited_step accepted event.now self.old.now.solicited;
-        }) }
-    {
-        queue_step(
-            &mut self.queue,
-            self.params,
-            &self.busy,
-            &self.tasks,
-            &self.solicited,
-            event,
-        )?;
-        let mut solicited = mem::replace(&mut self.solicited, Vec::new(self.alloc));
-        solicited_step(&mut solicited, accepted, event)?;
-        self.solicited = solicited;
-        Ok(())
-    }
-
-    // Submissions, and the tags that they end.
-    fn step_tasks(&mut self, accepted: bool, entry: &Numbered) -> Result<(), NoMemory>
+    // Submissions, the tags that they leave, and the tags in use.
+    fn step_submissions(&mut self, accepted: bool, entry: &Numbered) -> Result<(), NoMemory>
+        requires room { taken_by entry.now.event ≤ self.old.takes }
+        requires waits { Waits entry.now.event self.old.now.tasks }
         ensures config { self.new.config ≡ self.old.config }
         ensures now { OnOk result (self.new.now ≡ record self.old.now {
           tasks = tasks_step self.old.config entry.now.number accepted self.old.now.phase self.old.now.handler self.old.now.busy entry.now.event self.old.now.tasks;
           ended = ended_step entry.now.event self.old.now.tasks
               (tasks_step self.old.config entry.now.number accepted self.old.now.phase self.old.now.handler self.old.now.busy entry.now.event self.old.now.tasks) self.old.now.ended;
+          busy = allocated_step entry.now.event self.old.now.busy;
         }) }
+        ensures err { OnErr result (self.new.now ≡ self.old.now) }
+        ensures succeeds { brings entry.now.event ≡ false → IsOk result }
+        ensures releases { self.new.releases ≡ self.old.releases }
+        ensures takes { OnOk result (self.old.takes ≤ self.new.takes + taken_by entry.now.event) }
+        ensures pieces { self.new.pieces ≡ self.old.pieces }
+        ensures hears { self.new.hears ≡ self.old.hears }
     {
-        let live = live_tags(self.alloc, &self.tasks)?;
-        tasks_step(
-            &mut self.tasks,
+        self.submissions.step(
             &self.busy,
-            self.alloc,
             &self.config,
             entry.number,
             accepted,
@@ -292,24 +287,62 @@ impl Ledger {
             self.tracker.handler,
             &entry.event,
         )?;
-        ended_step(&mut self.ended, &live, &self.tasks, &entry.event)
+        busy_step(&mut self.busy, &entry.event);
+        Ok(())
     }
 
-    // Free and allocated tags, answers that are owed, Async Messages.
-    fn step_tags(&mut self, accepted: bool, event: &Event) -> Result<(), NoMemory>
-        requires { IsLogin event.now }
+    // Data that wait.
+    fn step_queue(&mut self, event: &Event)
+        requires { queued_in self.old.now event.now ≤ self.old.pieces }
         ensures config { self.new.config ≡ self.old.config }
-        ensures now { OnOk result (self.new.now ≡ record self.old.now {
-          free = free_after self.old.config.cmds_max event.now self.old.now.free;
-          busy = allocated_step event.now self.old.now.busy;
+        ensures now { self.new.now ≡ record self.old.now {
+          queue = queue_step self.old.now.params self.old.now.busy self.old.now.tasks self.old.now.solicited event.now self.old.now.queue;
+        } }
+        ensures releases { self.new.releases ≡ self.old.releases }
+        ensures takes { self.new.takes ≡ self.old.takes }
+        ensures pieces { self.old.pieces ≤ self.new.pieces + queued_in self.old.now event.now }
+        ensures hears { self.new.hears ≡ self.old.hears }
+    {
+        queue_step(
+            &mut self.queue,
+            self.params,
+            &self.busy,
+            self.submissions.tasks(),
+            &self.solicited,
+            event,
+        );
+    }
+
+    // R2Ts, answers that are owed, and Async Messages.
+    fn step_heard(&mut self, accepted: bool, event: &Event)
+        requires room { heard_by event.now ≤ self.old.hears }
+        requires within { accepted ≡ true → IsWithin event.now }
+        ensures config { self.new.config ≡ self.old.config }
+        ensures now { self.new.now ≡ record self.old.now {
+          solicited = solicited_step accepted event.now self.old.now.solicited;
           echoes = echoes_step accepted event.now self.old.now.echoes;
           asked = asked_step accepted event.now self.old.now.asked;
-        }) }
+        } }
+        ensures releases { self.new.releases ≡ self.old.releases }
+        ensures takes { self.new.takes ≡ self.old.takes }
+        ensures pieces { self.new.pieces ≡ self.old.pieces }
     {
-        free_step(&mut self.free, self.alloc, self.config.cmds_max, event)?;
-        busy_step(&mut self.busy, event)?;
-        echoes_step(&mut self.echoes, accepted, event)?;
-        asked_step(&mut self.asked, accepted, event)
+        solicited_step(&mut self.solicited, accepted, event);
+        echoes_step(&mut self.echoes, accepted, event);
+        asked_step(&mut self.asked, accepted, event);
+    }
+
+    // Tags that are free.
+    fn step_free(&mut self, event: &Event)
+        requires room { freed_by self.old.config.cmds_max event.now ≤ self.old.releases }
+        requires login { IsLogin event.now }
+        ensures config { self.new.config ≡ self.old.config }
+        ensures now { self.new.now ≡ record self.old.now { free = free_after self.old.config.cmds_max event.now self.old.now.free } }
+        ensures releases { is_login event.now ≡ false → self.old.releases ≤ self.new.releases + released_by event.now }
+        ensures takes { self.new.takes ≡ self.old.takes }
+        ensures pieces { self.new.pieces ≡ self.old.pieces }
+    {
+        free_step(&mut self.free, self.config.cmds_max, event);
     }
 
     // Rule 2.
@@ -318,7 +351,7 @@ impl Ledger {
     {
         match event {
             Event::Submit { id, request } => {
-                *id == self.tasks.len() as u64
+                *id == self.submissions.tasks().len() as u64
                     && request.kind.is_valid()
                     && !is_ended(self.tracker.phase)
             }
@@ -332,8 +365,10 @@ impl Ledger {
     {
         match event {
             Event::Issue { id, generation, .. } => {
-                is_place(sendable(self.config.queue_depth, &self.tasks), *id)
-                    && is_logged_in(self.tracker.phase, *generation)
+                is_place(
+                    sendable(self.config.queue_depth, self.submissions.tasks()),
+                    *id,
+                ) && is_logged_in(self.tracker.phase, *generation)
                     && rests(self.tracker.handler)
                     && !self.tracker.leaving
                     && is_whole(self.broken)
@@ -359,7 +394,9 @@ impl Ledger {
         ensures { IsTrue result ↔ IsTagged self.now.now event.now }
     {
         match event {
-            Event::Issue { tag, .. } => is_front(&self.free, *tag) && self.ended.is_empty(),
+            Event::Issue { tag, .. } => {
+                is_front(&self.free, *tag) && self.submissions.none_ended()
+            }
             _ => true,
         }
     }
@@ -385,7 +422,7 @@ impl Ledger {
         ensures { IsTrue result ↔ IsFirstEnded self.now.now event.now }
     {
         match event {
-            Event::Reap { tag } => is_first(&self.ended, *tag),
+            Event::Reap { tag } => is_tag(self.submissions.first_ended(), *tag),
             _ => true,
         }
     }
@@ -396,7 +433,9 @@ impl Ledger {
     {
         match event {
             Event::Draw { count } => {
-                *count >= 1 && *count as usize == drawable(&self.busy, &self.tasks, &self.solicited)
+                *count >= 1
+                    && *count as usize
+                        == drawable(&self.busy, self.submissions.tasks(), &self.solicited)
             }
             _ => true,
         }
@@ -412,7 +451,7 @@ impl Ledger {
         }
     }
 
-    fn ping_due(&self) -> PingDue
+    pub(crate) fn ping_due(&self) -> PingDue
         ensures { result ≡ ping_due self.now.now.heard (option_map_or (λ p. Some p.sent) self.now.now.ping None)
             self.now.config.noop_interval self.now.config.noop_timeout self.now.now.clock }
     {
@@ -433,7 +472,8 @@ impl Ledger {
         asked_by(&self.asked, event)
     }
 
-    fn is_cause(&self, cause: &LostCause) -> bool
+    /// The cause of a loss holds, as far as the history can tell.
+    pub fn is_cause(&self, cause: &LostCause) -> bool
         ensures { result ≡ is_cause self.now.config self.now.now cause.now }
     {
         match cause {
@@ -483,7 +523,8 @@ impl Ledger {
         ensures { IsTrue result ↔ HandsOut self.now.now event.now }
     {
         match event {
-            Event::Deliver { count } => *count >= 1 && *count as usize == due(&self.tasks),
+            Event::Deliver { count } => *count >= 1
+                && *count as usize == due(self.submissions.tasks()),
             _ => true,
         }
     }
@@ -523,7 +564,7 @@ impl Ledger {
     {
         !(self.tracker.logout_sent || !has_connection(self.tracker.phase))
             && self.broken.is_none()
-            && are_over(&self.ended, &self.queue)
+            && self.submissions.are_over(&self.queue)
     }
 
     // On the present connection, with its next management tag.
@@ -645,7 +686,7 @@ impl Ledger {
     pub fn into_fates(self) -> Result<Series<Fate>, NoMemory>
         ensures { IfOk result (λ found. found ≡ map (λ t. t.fate) self.now.tasks) }
     {
-        let Ledger { alloc, tasks, .. } = self;
-        fates_of(alloc, tasks)
+        let Ledger { submissions, .. } = self;
+        submissions.into_fates()
     }
 }

@@ -1,44 +1,31 @@
-ghost use Rattle.std.specs.Prelude.{◌≡◌, ◌≤◌, ◌<◌, ◌+◌, ◌^◌, ◌++◌, ◌∷◌, [], ℕ, All, List, OnOk, Some, ◌&&◌, is_none, map, slice_get};
+ghost use Rattle.std.specs.Prelude.{◌≡◌, ◌≤◌, ◌<◌, ◌+◌, ◌^◌, All, List, Some, false, true, ◌&&◌, count_by, is_none, not, slice_get, vec_len};
 ghost use Rattle.std.specs.Option.{option_copied};
+ghost use Rattle.std.specs.Vec.{vec_capacity};
+ghost use Rattle.std.specs.VecDeque.{deque_capacity, deque_len};
 ghost use Rattle.oi_base.specs.declared.login.Params.{Params};
-ghost use Rattle.oi_history.specs.Ending.{live_tag};
-ghost use Rattle.oi_history.specs.Ledgers.{CanAdvance, HasSegment, IsLogin, ended_by_live};
-ghost use Rattle.oi_history.specs.Meanings.{allocated_step, ended_step, told_step, unfinished};
+ghost use Rattle.oi_history.specs.Ledgers.{CanAdvance, HasSegment, IsLogin, IsWithin, freed_by, heard_by, is_login, queued_by, released_by};
+ghost use Rattle.oi_history.specs.Locks.{is_joint, is_task_response};
+ghost use Rattle.oi_history.specs.Meanings.{allocated_step, told_step};
 ghost use Rattle.oi_history.specs.Phases.{generation_after};
 ghost use Rattle.oi_history.specs.Queues.{queue_step, solicited_step};
-ghost use Rattle.oi_history.specs.Commands.{command_of};
-ghost use Rattle.oi_history.specs.Locks.{is_joint, is_task_response};
-ghost use Rattle.oi_history.specs.Recovering.{carried_out, submitted_in, tasks_heard, tasks_step};
-ghost use Rattle.oi_history.specs.Tasks.{changed, issued};
 ghost use Rattle.oi_history.specs.Snapshots.{broken_after, numbering_after, params_after, stat_after, stat_told, window_told};
-ghost use Rattle.oi_history.specs.Tags.{free_after};
+ghost use Rattle.oi_history.specs.Submitted.{taken_by};
+ghost use Rattle.oi_history.specs.Tags.{free_after, fresh_tags};
+ghost use Rattle.oi_history.specs.Tasks.{is_done};
 ghost use Rattle.oi_history.specs.declared.task.Task.{Task};
 
 use crate::acceptance::numbers_of;
 use crate::allocated::Allocated;
-use crate::command::Command;
-use crate::config::SessionConfig;
-use crate::course::{is_at_once, is_overdue};
-use crate::ending::end_tags;
 use crate::event::Event;
-use crate::handling::sent_under;
 use crate::numbers::Numbers;
 use crate::owed::{Queued, Solicited, Told};
-use crate::phase::{Handler, Phase};
 use crate::queueing::{drop_queued, drop_solicited, hear_r2t, queue_drawn, queue_unasked};
-use crate::recovering::{
-    data_under, hit_all, hit_at, lose_all, reset_all, response_under, submitted,
-};
-use crate::reply::{issue, tries_of};
 use crate::rule::Rule;
-use crate::tables::{fresh_tags, pending, release, tell_all};
+use crate::tables::release;
 use crate::task::Task;
-use oi_base::{NoMemory, Params, Serial, Tag, age_of};
+use oi_base::{Params, Serial, Tag, age_of};
 use oi_pdu::Header;
-use oi_recovery::Hit;
-use oi_scsi::Request;
 use oi_window::Window;
-use std::alloc::Global;
 use std::collections::VecDeque;
 
 pub fn generation_step(event: &Event, before: u64) -> u64
@@ -127,281 +114,113 @@ pub fn broken_step(
 }
 
 pub fn queue_step(
-    queue: &mut Vec<Queued>,
+    queue: &mut VecDeque<Queued>,
     params: Option<Params>,
     busy: &[Allocated],
     tasks: &[Task],
     solicited: &[Solicited],
     event: &Event,
-) -> Result<(), NoMemory>
+)
     requires some { (p : Params) → params ≡ Some p → 1 ≤ p.max_send }
     requires fits { All (λ r. r.offset + r.length < 2 ^ 32) solicited.now }
-    ensures { OnOk result (queue.new.items ≡ queue_step params busy.now tasks.now solicited.now event.now queue.old.items) }
+    requires room { deque_len queue.old + queued_by params busy.now tasks.now solicited.now event.now ≤ deque_capacity queue.old }
+    ensures items { queue.new.items ≡ queue_step params busy.now tasks.now solicited.now event.now queue.old.items }
+    ensures capacity { deque_capacity queue.new ≡ deque_capacity queue.old }
+    ensures len { deque_len queue.new ≤ deque_len queue.old + queued_by params busy.now tasks.now solicited.now event.now }
 {
     match event {
-        Event::Login { .. } | Event::Lost { .. } => {
-            queue.clear();
-            Ok(())
-        }
+        Event::Login { .. } | Event::Lost { .. } => queue.clear(),
         Event::Issue { id, tag, .. } => {
-            queue_unasked(queue, params, *id, *tag, task_at(tasks, *id))
+            queue_unasked(queue, params, *id, *tag, task_at(tasks, *id));
         }
         Event::Draw { .. } => queue_drawn(queue, params, busy, tasks, solicited),
         Event::Push { .. } => {
-            if !queue.is_empty() {
-                let _ = queue.remove(0);
-            }
-            Ok(())
+            let _ = queue.pop_front();
         }
-        Event::Reap { tag } => {
-            drop_queued(queue, *tag);
-            Ok(())
-        }
-        _ => Ok(()),
+        Event::Reap { tag } => drop_queued(queue, *tag),
+        _ => {}
     }
 }
 
-fn task_at(tasks: &[Task], id: u64) -> Option<&Task>
+pub fn task_at(tasks: &[Task], id: u64) -> Option<&Task>
     ensures { option_copied result ≡ slice_get tasks.now id }
 {
     tasks.get(id as usize)
 }
 
-pub fn solicited_step(
-    solicited: &mut Vec<Solicited>,
-    accepted: bool,
-    event: &Event,
-) -> Result<(), NoMemory>
-    requires { All (λ r. r.offset + r.length < 2 ^ 32) solicited.old.items }
-    ensures is { OnOk result (solicited.new.items ≡ solicited_step accepted event.now solicited.old.items) }
-    ensures fits { OnOk result (All (λ r. r.offset + r.length < 2 ^ 32) solicited.new.items) }
+pub fn solicited_step(solicited: &mut Vec<Solicited>, accepted: bool, event: &Event)
+    requires within { accepted ≡ true → IsWithin event.now }
+    requires room { vec_len solicited.old + heard_by event.now ≤ vec_capacity solicited.old }
+    requires fits { All (λ r. r.offset + r.length < 2 ^ 32) solicited.old.items }
+    ensures is { solicited.new.items ≡ solicited_step accepted event.now solicited.old.items }
+    ensures fits { All (λ r. r.offset + r.length < 2 ^ 32) solicited.new.items }
 {
     match event {
-        Event::Login { .. } | Event::Lost { .. } | Event::Draw { .. } => {
-            solicited.clear();
-            Ok(())
-        }
-        Event::Reap { tag } => {
-            drop_solicited(solicited, *tag);
-            Ok(())
-        }
+        Event::Login { .. } | Event::Lost { .. } | Event::Draw { .. } => solicited.clear(),
+        Event::Reap { tag } => drop_solicited(solicited, *tag),
         Event::PduIn { pdu, .. } if accepted => hear_r2t(solicited, &pdu.head),
-        _ => Ok(()),
-    }
-}
-
-fn carry_out(tasks: &mut Vec<Task>, alloc: Global, allowed: u8, at: u64, handler: Handler)
-    ensures { tasks.new.items ≡ carried_out allowed at handler tasks.old.items }
-{
-    match handler {
-        Handler::Aborting { id, .. } => hit_at(tasks, id, alloc, allowed, at, Hit::AbortDone),
-        Handler::ResettingLun { lun, .. } => reset_all(tasks, alloc, allowed, at, lun),
-        Handler::ResettingTarget { .. } => hit_all(tasks, alloc, allowed, at, Hit::ResetDone),
         _ => {}
     }
 }
 
-fn tasks_heard(
-    tasks: &mut Vec<Task>,
-    busy: &[Allocated],
-    alloc: Global,
-    allowed: u8,
-    at: u64,
-    handler: Handler,
-    head: &Header,
-    payload: &[u8],
-) -> Result<(), NoMemory>
-    ensures { OnOk result (tasks.new.items ≡ tasks_heard allowed at handler busy.now head.now payload.now tasks.old.items) }
+// All tags of a connection are free.
+fn free_all(free: &mut VecDeque<Tag>, age: u8, count: u16)
+    requires age { age < 16 }
+    requires count { count ≤ 2048 }
+    requires room { count ≤ deque_capacity free.old }
+    ensures items { free.new.items ≡ fresh_tags age count }
+    ensures capacity { deque_capacity free.new ≡ deque_capacity free.old }
 {
-    match head {
-        Header::DataIn(h) => data_under(tasks, busy, alloc, allowed, at, handler, *h, payload),
-        Header::ScsiResponse(h) => response_under(
-            tasks, busy, alloc, allowed, at, handler, *h, payload,
-        ),
-        Header::TaskResponse(h) if sent_under(h.tag, handler) && h.response == 0 => {
-            carry_out(tasks, alloc, allowed, at, handler);
-            Ok(())
-        }
-        _ => Ok(()),
+    free.clear();
+    for index in 0..count {
+        free.push_back_reserved(Tag::command(age, index));
     }
 }
 
-// The rules let no command out more often than the settings allow, so it does not come to a refusal.
-fn send(task: &mut Task, generation: u64, tag: Tag) -> Result<(), NoMemory>
-    ensures { OnOk result (task.new ≡ issued generation tag task.old) }
-{
-    if tries_of(&task.fate) == u8::MAX {
-        return Err(NoMemory);
-    }
-    issue(task, generation, tag);
-    Ok(())
-}
-
-fn send_at(tasks: &mut Vec<Task>, id: u64, generation: u64, tag: Tag) -> Result<(), NoMemory>
-    ensures { OnOk result (tasks.new.items ≡ changed id (issued generation tag) tasks.old.items) }
-{
-    if id >= tasks.len() as u64 {
-        return Ok(());
-    }
-    let task = &mut tasks[id as usize];
-    send(task, generation, tag)
-}
-
-fn take_in(
-    tasks: &mut Vec<Task>,
-    alloc: Global,
-    phase: Phase,
-    at: u64,
-    request: &Request,
-) -> Result<(), NoMemory>
-    ensures { OnOk result (tasks.new.items ≡ tasks.old.items ++ submitted_in phase at (command_of request.now) ∷ []) }
-{
-    let command = Command::new(alloc, request)?;
-    tasks.push(submitted(alloc, phase, at, command))?;
-    Ok(())
-}
-
-pub fn tasks_step(
-    tasks: &mut Vec<Task>,
-    busy: &[Allocated],
-    alloc: Global,
-    config: &SessionConfig,
-    at: u64,
-    accepted: bool,
-    phase: Phase,
-    handler: Handler,
-    event: &Event,
-) -> Result<(), NoMemory>
-    ensures { OnOk result (tasks.new.items ≡ tasks_step config.now at accepted phase handler busy.now event.now tasks.old.items) }
-{
-    let allowed = config.tries;
-    match event {
-        Event::Submit { request, .. } => return take_in(tasks, alloc, phase, at, request),
-        Event::Issue {
-            id,
-            generation,
-            tag,
-            ..
-        } => return send_at(tasks, *id, *generation, *tag),
-        Event::PduIn { pdu, .. } if accepted => {
-            return tasks_heard(
-                tasks,
-                busy,
-                alloc,
-                allowed,
-                at,
-                handler,
-                &pdu.head,
-                pdu.payload.as_slice(),
-            );
-        }
-        Event::Lost { .. } => lose_all(
-            tasks,
-            alloc,
-            allowed,
-            at,
-            handler,
-            is_at_once(config.replacement),
-            config.count_disrupted,
-        ),
-        Event::Tick { now } if is_overdue(config.replacement, *now, phase) => {
-            hit_all(tasks, alloc, allowed, at, Hit::ReplacementPast)
-        }
-        Event::Abort { id } => hit_at(tasks, *id, alloc, allowed, at, Hit::Aborted),
-        Event::Deliver { .. } => tell_all(tasks),
-        Event::Terminate { .. } => hit_all(tasks, alloc, allowed, at, Hit::Ended),
-        _ => {}
-    }
-    Ok(())
-}
-
-fn end_by(
-    ended: &mut Vec<Tag>,
-    before: &[Option<Tag>],
-    tasks: &[Task],
-    event: &Event,
-) -> Result<(), NoMemory>
-    ensures { OnOk result (ended.new.items ≡ ended_by_live event.now before.now tasks.now ended.old.items) }
-{
-    match event {
-        Event::Login { .. } | Event::Lost { .. } => {
-            ended.clear();
-            Ok(())
-        }
-        Event::Reap { .. } => {
-            if !ended.is_empty() {
-                let _ = ended.remove(0);
-            }
-            Ok(())
-        }
-        _ => end_tags(ended, before, tasks),
-    }
-}
-
-/// The tags that have ended, by those on which the submissions were live before.
-pub fn ended_step(
-    ended: &mut Vec<Tag>,
-    before: &[Option<Tag>],
-    tasks: &[Task],
-    event: &Event,
-) -> Result<(), NoMemory>
-    ensures { (old : List Task) → before.now ≡ map (λ t. live_tag t.fate) old → OnOk result (ended.new.items ≡ ended_step event.now old tasks.now ended.old.items) }
-{
-    end_by(ended, before, tasks, event)
-}
-
-pub fn free_step(
-    free: &mut VecDeque<Tag>,
-    alloc: Global,
-    count: u16,
-    event: &Event,
-) -> Result<(), NoMemory>
+pub fn free_step(free: &mut VecDeque<Tag>, count: u16, event: &Event)
     requires count { count ≤ 2048 }
     requires login { IsLogin event.now }
-    ensures { OnOk result (free.new.items ≡ free_after count event.now free.old.items) }
+    requires room { deque_len free.old + freed_by count event.now ≤ deque_capacity free.old }
+    ensures items { free.new.items ≡ free_after count event.now free.old.items }
+    ensures capacity { deque_capacity free.new ≡ deque_capacity free.old }
+    ensures len { is_login event.now ≡ false → deque_len free.new ≤ deque_len free.old + released_by event.now }
 {
     match event {
-        Event::Login { generation, .. } => {
-            *free = fresh_tags(alloc, age_of(*generation), count)?;
-        }
+        Event::Login { generation, .. } => free_all(free, age_of(*generation), count),
         Event::Issue { .. } => {
             let _ = free.pop_front();
         }
-        Event::Reap { tag } => free.push_back(*tag)?,
+        Event::Reap { tag } => free.push_back_reserved(*tag),
         _ => {}
     }
-    Ok(())
 }
 
-pub fn busy_step(busy: &mut Vec<Allocated>, event: &Event) -> Result<(), NoMemory>
-    ensures { OnOk result (busy.new.items ≡ allocated_step event.now busy.old.items) }
+pub fn busy_step(busy: &mut Vec<Allocated>, event: &Event)
+    requires { vec_len busy.old + taken_by event.now ≤ vec_capacity busy.old }
+    ensures items { busy.new.items ≡ allocated_step event.now busy.old.items }
+    ensures capacity { vec_capacity busy.new ≡ vec_capacity busy.old }
+    ensures len { vec_len busy.new ≤ vec_len busy.old + taken_by event.now }
 {
     match event {
         Event::Login { .. } | Event::Lost { .. } => busy.clear(),
-        Event::Issue { id, tag, cmdsn, .. } => busy.push(Allocated {
+        Event::Issue { id, tag, cmdsn, .. } => busy.push_reserved(Allocated {
             tag: *tag,
             id: *id,
             cmdsn: *cmdsn,
-        })?,
+        }),
         Event::Reap { tag } => release(busy, *tag),
         _ => {}
     }
-    Ok(())
 }
 
-fn unfinished(tasks: &[Task]) -> u32
-    ensures { result ≡ unfinished tasks.now }
-{
-    u32::try_from(pending(tasks)).unwrap_or(u32::MAX)
-}
-
-pub fn told_step(joint: bool, event: &Event, stat: u32, tasks: &[Task], told: Told) -> Told
-    ensures { result ≡ told_step joint event.now stat tasks.now told }
+/// What the half that receives tells, where so many submissions are not done.
+pub fn told_step(joint: bool, event: &Event, stat: u32, pending: usize, told: Told) -> Told
+    ensures { (tasks : List Task) → pending ≡ count_by (λ t. not (is_done t.fate)) tasks → result ≡ told_step joint event.now stat tasks told }
 {
     if joint {
         return Told {
             stat,
-            pending: unfinished(tasks),
+            pending: u32::try_from(pending).unwrap_or(u32::MAX),
         };
     }
     match event {

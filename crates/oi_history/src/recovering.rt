@@ -1,10 +1,8 @@
-ghost use Rattle.std.specs.Prelude.{◌≡◌, OnOk, map};
+ghost use Rattle.std.specs.Prelude.{◌≡◌, OnErr, OnOk};
+ghost use Rattle.oi_history.specs.Blows.{blow_by};
 ghost use Rattle.oi_history.specs.Handling.{aim_of};
-ghost use Rattle.oi_history.specs.Recovering.{answered_by, changed_under, got_data, got_response, hit_by, lost_by, map_from, moved_by, reset_by, submitted_in};
-ghost use Rattle.oi_history.specs.Tasks.{changed};
+ghost use Rattle.oi_history.specs.Recovering.{answered_by, got_data, got_response, hit_by, lost_by, moved_by, reset_by, submitted_in};
 
-use crate::acceptance::holder_of;
-use crate::allocated::Allocated;
 use crate::command::Command;
 use crate::course::is_fail_fast;
 use crate::fate::{Fate, Outcome};
@@ -18,6 +16,22 @@ use oi_base::NoMemory;
 use oi_pdu::{DataIn, ScsiResponse};
 use oi_recovery::{Aim, Hit, HostCode, Next, Stand, after};
 use std::alloc::Global;
+
+/// What befalls submissions that is no reply to them.
+#[derive(Clone, Copy, Debug)]
+pub enum Blow {
+    Struck(Hit),
+    /// The reset of a logical unit.
+    Reset {
+        lun: u8,
+    },
+    /// The loss of the connection, while the error handler does this.
+    Loss {
+        handler: Handler,
+        at_once: bool,
+        counted: bool,
+    },
+}
 
 // What the recovery table says.
 fn move_by(task: &mut Task, alloc: Global, at: u64, next: Next)
@@ -36,9 +50,8 @@ fn move_by(task: &mut Task, alloc: Global, at: u64, next: Next)
         Next::Stay | Next::Answer => {}
     }
 }
-
 /// What befalls a submission that is no reply to it.
-pub fn hit(task: &mut Task, alloc: Global, allowed: u8, at: u64, hit: Hit)
+fn hit(task: &mut Task, alloc: Global, allowed: u8, at: u64, hit: Hit)
     ensures { task.new ≡ hit_by allowed at hit task.old }
 {
     let stand = match &task.fate {
@@ -66,7 +79,8 @@ fn answer(task: &mut Task, alloc: Global, allowed: u8, at: u64, aim: Aim, reply:
     settle(task, alloc, at, reply, next);
 }
 
-fn data_to(
+/// A Data-In, while the error handler aims so.
+pub fn data_to(
     task: &mut Task,
     alloc: Global,
     allowed: u8,
@@ -75,7 +89,8 @@ fn data_to(
     h: DataIn,
     payload: &[u8],
 ) -> Result<(), NoMemory>
-    ensures { OnOk result (task.new ≡ got_data allowed at aim h payload.now task.old) }
+    ensures ok { OnOk result (task.new ≡ got_data allowed at aim h payload.now task.old) }
+    ensures err { OnErr result (task.new ≡ task.old) }
 {
     if !is_live_on(&task.fate, h.tag) {
         return Ok(());
@@ -87,7 +102,8 @@ fn data_to(
     Ok(())
 }
 
-fn response_to(
+/// A SCSI Response, while the error handler aims so.
+pub fn response_to(
     task: &mut Task,
     alloc: Global,
     allowed: u8,
@@ -96,7 +112,8 @@ fn response_to(
     h: ScsiResponse,
     payload: &[u8],
 ) -> Result<(), NoMemory>
-    ensures { OnOk result (task.new ≡ got_response allowed at aim h payload.now task.old) }
+    ensures ok { OnOk result (task.new ≡ got_response allowed at aim h payload.now task.old) }
+    ensures err { OnErr result (task.new ≡ task.old) }
 {
     if !is_live_on(&task.fate, h.tag) {
         return Ok(());
@@ -104,6 +121,15 @@ fn response_to(
     let reply = scsi_reply(alloc, h, payload)?;
     answer(task, alloc, allowed, at, aim, reply);
     Ok(())
+}
+
+// The reset of a logical unit.
+fn reset(task: &mut Task, alloc: Global, allowed: u8, at: u64, lun: u8)
+    ensures { task.new ≡ reset_by allowed at lun task.old }
+{
+    if task.command.lun == lun {
+        hit(task, alloc, allowed, at, Hit::ResetDone);
+    }
 }
 
 // The loss of the connection, for the submission with this id.
@@ -133,6 +159,21 @@ fn lose(
     );
 }
 
+/// What befalls the submission with this id.
+pub fn strike(task: &mut Task, alloc: Global, allowed: u8, at: u64, blow: Blow, id: u64)
+    ensures { task.new ≡ blow_by allowed at blow id task.old }
+{
+    match blow {
+        Blow::Struck(by) => hit(task, alloc, allowed, at, by),
+        Blow::Reset { lun } => reset(task, alloc, allowed, at, lun),
+        Blow::Loss {
+            handler,
+            at_once,
+            counted,
+        } => lose(task, alloc, allowed, at, handler, at_once, counted, id),
+    }
+}
+
 /// A submission that comes in.
 pub fn submitted(alloc: Global, phase: Phase, at: u64, command: Command) -> Task
     ensures { result ≡ submitted_in phase at command }
@@ -149,111 +190,4 @@ pub fn submitted(alloc: Global, phase: Phase, at: u64, command: Command) -> Task
         );
     }
     task
-}
-
-/// All submissions are hit.
-pub fn hit_all(tasks: &mut Vec<Task>, alloc: Global, allowed: u8, at: u64, by: Hit)
-    ensures { tasks.new.items ≡ map (hit_by allowed at by) tasks.old.items }
-{
-    for task in tasks.iter_mut() {
-        hit(task, alloc, allowed, at, by);
-    }
-}
-
-// The reset of a logical unit.
-fn reset(task: &mut Task, alloc: Global, allowed: u8, at: u64, lun: u8)
-    ensures { task.new ≡ reset_by allowed at lun task.old }
-{
-    if task.command.lun == lun {
-        hit(task, alloc, allowed, at, Hit::ResetDone);
-    }
-}
-
-/// The submissions of a logical unit that is reset.
-pub fn reset_all(tasks: &mut Vec<Task>, alloc: Global, allowed: u8, at: u64, lun: u8)
-    ensures { tasks.new.items ≡ map (reset_by allowed at lun) tasks.old.items }
-{
-    for task in tasks.iter_mut() {
-        reset(task, alloc, allowed, at, lun);
-    }
-}
-
-/// The loss of the connection, for all submissions.
-pub fn lose_all(
-    tasks: &mut Vec<Task>,
-    alloc: Global,
-    allowed: u8,
-    at: u64,
-    handler: Handler,
-    at_once: bool,
-    counted: bool,
-)
-    ensures { tasks.new.items ≡ map_from 0 (lost_by allowed at handler at_once counted) tasks.old.items }
-{
-    let mut id = 0;
-    while id < tasks.len() {
-        let task = &mut tasks[id];
-        lose(
-            task, alloc, allowed, at, handler, at_once, counted, id as u64,
-        );
-        id += 1;
-    }
-}
-
-/// The submission with this id is hit.
-pub fn hit_at(tasks: &mut Vec<Task>, id: u64, alloc: Global, allowed: u8, at: u64, by: Hit)
-    ensures { tasks.new.items ≡ changed id (hit_by allowed at by) tasks.old.items }
-{
-    if id < tasks.len() as u64 {
-        let task = &mut tasks[id as usize];
-        hit(task, alloc, allowed, at, by);
-    }
-}
-
-/// A Data-In for the submission in use of its tag.
-pub fn data_under(
-    tasks: &mut Vec<Task>,
-    busy: &[Allocated],
-    alloc: Global,
-    allowed: u8,
-    at: u64,
-    handler: Handler,
-    h: DataIn,
-    payload: &[u8],
-) -> Result<(), NoMemory>
-    ensures { OnOk result (tasks.new.items ≡ changed_under h.tag.0 busy.now (λ k t. got_data allowed at (aim_of handler k t) h payload.now t) tasks.old.items) }
-{
-    let Some(id) = holder_of(busy, h.tag) else {
-        return Ok(());
-    };
-    if id >= tasks.len() as u64 {
-        return Ok(());
-    }
-    let task = &mut tasks[id as usize];
-    let aim = aim_of(handler, id, task);
-    data_to(task, alloc, allowed, at, aim, h, payload)
-}
-
-/// A SCSI Response for the submission in use of its tag.
-pub fn response_under(
-    tasks: &mut Vec<Task>,
-    busy: &[Allocated],
-    alloc: Global,
-    allowed: u8,
-    at: u64,
-    handler: Handler,
-    h: ScsiResponse,
-    payload: &[u8],
-) -> Result<(), NoMemory>
-    ensures { OnOk result (tasks.new.items ≡ changed_under h.tag.0 busy.now (λ k t. got_response allowed at (aim_of handler k t) h payload.now t) tasks.old.items) }
-{
-    let Some(id) = holder_of(busy, h.tag) else {
-        return Ok(());
-    };
-    if id >= tasks.len() as u64 {
-        return Ok(());
-    }
-    let task = &mut tasks[id as usize];
-    let aim = aim_of(handler, id, task);
-    response_to(task, alloc, allowed, at, aim, h, payload)
 }

@@ -98,7 +98,8 @@ pub fn due(tasks: &[Task]) -> usize
     count
 }
 
-fn is_over(ended: &[Tag], tag: Tag) -> bool
+/// The tag has ended.
+pub fn is_over(ended: &[Tag], tag: Tag) -> bool
     ensures { result ≡ is_over ended.now tag.0 }
 {
     for t in ended {
@@ -109,16 +110,31 @@ fn is_over(ended: &[Tag], tag: Tag) -> bool
     false
 }
 
-/// No data wait but those of tags that ended.
-pub fn are_over(ended: &[Tag], queue: &[Queued]) -> bool
-    ensures { result ≡ are_over ended.now queue.now }
+/// The tag has ended.
+pub fn is_among(ended: &VecDeque<Tag>, tag: Tag) -> bool
+    ensures { result ≡ is_over ended.now.items tag.0 }
+{
+    let (first, later) = ended.as_slices();
+    is_over(first, tag) || is_over(later, tag)
+}
+
+fn are_among(ended: &VecDeque<Tag>, queue: &[Queued]) -> bool
+    ensures { result ≡ are_over ended.now.items queue.now }
 {
     for q in queue {
-        if !is_over(ended, q.tag) {
+        if !is_among(ended, q.tag) {
             return false;
         }
     }
     true
+}
+
+/// No data wait but those of tags that ended.
+pub fn are_over(ended: &VecDeque<Tag>, queue: &VecDeque<Queued>) -> bool
+    ensures { result ≡ are_over ended.now.items queue.now.items }
+{
+    let (first, later) = queue.as_slices();
+    are_among(ended, first) && are_among(ended, later)
 }
 
 /// The error handler has nothing to send.
@@ -234,25 +250,20 @@ pub fn is_whole(broken: Option<Rule>) -> bool
     }
 }
 
-fn is_tag(first: Option<&Tag>, tag: Tag) -> bool
-    ensures { IsTrue result ↔ (option_copied first.entry ≡ Some tag) }
+/// It is this tag.
+pub fn is_tag(first: Option<Tag>, tag: Tag) -> bool
+    ensures { IsTrue result ↔ (first ≡ Some tag) }
 {
     match first {
-        Some(first) => *first == tag,
+        Some(first) => first == tag,
         None => false,
     }
 }
 
-fn front(tags: &VecDeque<Tag>) -> Option<&Tag>
-    ensures { option_copied result ≡ slice_get tags.now.items 0 }
+fn front(tags: &VecDeque<Tag>) -> Option<Tag>
+    ensures { result ≡ slice_get tags.now.items 0 }
 {
-    tags.front()
-}
-
-fn first(tags: &[Tag]) -> Option<&Tag>
-    ensures { option_copied result ≡ slice_get tags.now 0 }
-{
-    tags.first()
+    tags.front().copied()
 }
 
 /// The tag has been free longest.
@@ -260,13 +271,6 @@ pub fn is_front(free: &VecDeque<Tag>, tag: Tag) -> bool
     ensures { IsTrue result ↔ (slice_get free.now.items 0 ≡ Some tag) }
 {
     is_tag(front(free), tag)
-}
-
-/// The tag ended first.
-pub fn is_first(ended: &[Tag], tag: Tag) -> bool
-    ensures { IsTrue result ↔ (slice_get ended.now 0 ≡ Some tag) }
-{
-    is_tag(first(ended), tag)
 }
 
 /// The event sends these data.
@@ -296,10 +300,10 @@ pub fn sends(event: &Event, generation: u64, queued: &Queued) -> bool
 }
 
 /// The data that wait first.
-pub fn first_queued(queue: &[Queued]) -> Option<&Queued>
-    ensures { option_copied result ≡ slice_get queue.now 0 }
+pub fn first_queued(queue: &VecDeque<Queued>) -> Option<&Queued>
+    ensures { option_copied result ≡ slice_get queue.now.items 0 }
 {
-    queue.first()
+    queue.front()
 }
 
 /// The number is above that of the newest entry.

@@ -15,6 +15,7 @@ use Rattle.oi_history.specs.Tags.{holder}
 use Rattle.oi_history.specs.Tasks.{changed, data_reply, fresh_task, is_done, is_live_on, is_waiting, issued, scsi_reply, settled, told_task, tries_of, with_piece}
 use Rattle.oi_history.specs.declared.allocated.Allocated.{Allocated}
 use Rattle.oi_history.specs.declared.command.Command.{Command}
+use Rattle.oi_history.specs.Standing.{HasTries}
 use Rattle.oi_history.specs.declared.config.SessionConfig.{SessionConfig}
 use Rattle.oi_history.specs.declared.event.Event.{Event}
 use Rattle.oi_history.specs.declared.event.Event.TheVariants.{Submit, PduIn, Deliver, Issue, Lost, Tick, Abort, Terminate}
@@ -40,7 +41,6 @@ use Rattle.oi_recovery.specs.declared.host_code.HostCode.TheVariants.{BadTarget,
 use Rattle.oi_recovery.specs.declared.stand.Next.{Next}
 use Rattle.oi_recovery.specs.declared.stand.Next.TheVariants.{Stay, Wait, Answer, Host}
 use Rattle.oi_recovery.specs.declared.stand.Stand.TheVariants.{Waiting as StandsWaiting, Live as StandsLive}
-use Rattle.oi_session_laws.specs.Ends.{HasTries}
 
 -- an entry hands out what is done; an entry takes the tag
 abbrev pub hands_out : Event → Bool

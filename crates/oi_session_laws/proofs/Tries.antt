@@ -2,6 +2,7 @@
 use Rattle.std.proofs.Common.{◌≡◌, ◌≤◌, ℕ, suc, zero, List, [], ◌∷◌, subst, Some}
 use Rattle.oi_history.specs.Meanings.{accepted_in, meanings}
 use Rattle.oi_history.specs.Permitted.{ArePermitted}
+use Rattle.oi_history.specs.Standing.{HasTries, HaveTries}
 use Rattle.oi_history.specs.declared.config.SessionConfig.{SessionConfig}
 use Rattle.oi_history.specs.declared.event.Event.{Event}
 use Rattle.oi_history.specs.declared.event.Numbered.{Numbered}
@@ -9,11 +10,6 @@ use Rattle.oi_history.specs.declared.fate.Fate.{Fate}
 use Rattle.oi_history.specs.declared.task.Task.{Task}
 use Rattle.oi_laws.specs.Stays.{fate_at}
 use Rattle.oi_session_laws.proofs.Moved.{AreMoved, AreNew, moved_after}
-use Rattle.oi_session_laws.specs.Ends.{HasTries}
-
-abbrev pub HaveTries : ℕ → List Task → Type 0
-HaveTries a [] = Unit {0}
-HaveTries a (t ∷ ts) = HasTries a t.fate × HaveTries a ts
 
 tries-new : (a : ℕ) (us : List Task) → 1 ≤ a → AreNew a us → HaveTries a us
 tries-new a [] one new = tt

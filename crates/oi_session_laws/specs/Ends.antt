@@ -3,20 +3,14 @@ use Rattle.std.specs.Prelude.{◌≡◌, ◌≤◌, ◌<◌, ◌||◌, ℕ, Bool
 use Rattle.oi_history.specs.Meanings.{meanings}
 use Rattle.oi_history.specs.Permitted.{ArePermitted}
 use Rattle.oi_history.specs.Phases.{is_ended}
+use Rattle.oi_history.specs.Standing.{HasTries}
 use Rattle.oi_history.specs.Tasks.{is_done}
 use Rattle.oi_history.specs.declared.config.SessionConfig.{SessionConfig}
 use Rattle.oi_history.specs.declared.event.Event.{Event}
 use Rattle.oi_history.specs.declared.event.Event.TheVariants.{Terminate}
 use Rattle.oi_history.specs.declared.event.Numbered.{Numbered}
 use Rattle.oi_history.specs.declared.fate.Fate.{Fate}
-use Rattle.oi_history.specs.declared.fate.Fate.TheVariants.{Waiting, Live, Done}
 use Rattle.oi_laws.specs.Stays.{fate_at}
-
--- one that waits has a try left; the tries of one that is live count the present one
-abbrev pub HasTries : ℕ → Fate → Type 0
-HasTries allowed (Waiting tries) = tries < allowed
-HasTries allowed (Live generation tag tries) = tries ≤ allowed
-HasTries allowed (Done outcome at) = Unit {0}
 
 -- the session was ended
 abbrev pub is_end : Event → Bool

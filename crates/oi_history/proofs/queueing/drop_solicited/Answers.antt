@@ -1,4 +1,4 @@
-use Rattle.std.proofs.Common.{◌≡◌, ◌+◌, ◌<◌, ◌^◌, ◌==◌, All, List, filter, not, rules, subst, sym}
+use Rattle.std.proofs.Common.{◌+◌, ◌<◌, ◌^◌, ◌==◌, All, List, not, rules, subst, sym}
 use Rattle.std.proofs.lemmas.Fn.{filter_same}
 use Rattle.std.proofs.lemmas.List.Elements.{All-filter}
 use Rattle.oi_history.specs.declared.owed.Solicited.{Solicited}

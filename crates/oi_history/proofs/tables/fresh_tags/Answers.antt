@@ -1,4 +1,4 @@
-use Rattle.std.proofs.Common.{◌∙◌, arith}
+use Rattle.std.proofs.Common.{◌∙◌}
 use Rattle.oi_history.proofs.Places.{fresh_tags_more}
 use Rattle.oi_history.proofs.tables.fresh_tags.Goals as goal
 

@@ -1,4 +1,4 @@
-use Rattle.std.proofs.Common.{◌≡◌, ◌∙◌, ◌∷◌, List, Some, ap, arith, reverse, subst, take}
+use Rattle.std.proofs.Common.{◌∙◌, ◌∷◌, List, Some, ap, arith, reverse, subst, take}
 use Rattle.oi_history.proofs.Traced.{fault_of_all, one_more}
 use Rattle.oi_history.specs.Traces.{Follows, IsTraceFault}
 use Rattle.oi_history.specs.declared.event.Numbered.{Numbered}

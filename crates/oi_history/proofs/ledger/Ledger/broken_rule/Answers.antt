@@ -9,5 +9,5 @@ returns-clause-judged c =
 
 pub returns-clause-steps : goal.returns-clause-steps
 returns-clause-steps c =
-    steps c.args.self.now.now c.args.entry.now.event c.first_broken.result
-    c.is_above.result c.comes.result c.is_next_command.result c.is_numbered.result c.is_tagged.result c.is_next_data.result c.is_first_ended.result c.draws_all.result c.is_asked.result c.goes_on.result c.has_cause.result c.is_next_login.result c.hands_out.result c.is_heeded.result c.stands_behind.result c.first_broken.ensures c.is_numbered.ensures c.is_next_login.ensures
+    steps c.args.self.now.config c.args.self.now.now c.args.entry.now.event c.first_broken.result
+    c.is_above.result c.comes.result c.is_next_command.result c.is_numbered.result c.is_tagged.result c.is_next_data.result c.is_first_ended.result c.draws_all.result c.is_asked.result c.goes_on.result c.has_cause.result c.is_next_login.result c.hands_out.result c.is_heeded.result c.stands_behind.result c.first_broken.ensures c.is_next_command.ensures c.is_numbered.ensures c.is_next_login.ensures

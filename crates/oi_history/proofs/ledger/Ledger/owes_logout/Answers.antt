@@ -1,5 +1,5 @@
-use Rattle.std.proofs.Common.{◌≡◌, ◌∙◌, true, false, sym, ap}
-use Rattle.std.proofs.lemmas.Bool.{false≢true, true≢false}
+use Rattle.std.proofs.Common.{◌≡◌, ◌∙◌, true, sym, ap}
+use Rattle.std.proofs.lemmas.Bool.{false≢true}
 use Rattle.oi_history.proofs.Asked.{logout_owed}
 use Rattle.oi_history.specs.Judging.{may_ask}
 use Rattle.oi_history.specs.Ledgers.{LedgerView}

@@ -1,6 +1,0 @@
-use Rattle.std.proofs.Common.{◌≡◌, ◌++◌, map, take, drop}
-use Rattle.oi_history.specs.Recovering.{hit_by}
-use Rattle.oi_history.proofs.recovering.hit_all.Given as goal
-
-abbrev pub invariant-loop-task : goal.invariant-loop-task
-invariant-loop-task l = l.task-items ≡ map (hit_by l.allowed l.at l.by) (take l.task-index l.initial.task-items) ++ drop l.task-index l.initial.task-items
