@@ -1,0 +1,10 @@
+pub mod Entries
+pub mod Allowed
+pub mod Held
+pub mod Issued
+pub mod Loads
+pub mod Ready
+pub mod Managed
+pub mod Bytes
+pub mod Turning
+pub mod Closing
