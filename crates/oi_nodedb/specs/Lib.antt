@@ -1,0 +1,4 @@
+pub mod Answers
+pub mod Databases
+pub mod Filters
+pub mod Loads
