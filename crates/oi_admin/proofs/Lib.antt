@@ -1,0 +1,4 @@
+pub mod Counts
+pub mod Outputs
+pub mod Shapes
+pub mod Shown

@@ -1,0 +1,5 @@
+pub mod Applies
+pub mod Commands
+pub mod Listings
+pub mod Readings
+pub mod Rows

@@ -1,0 +1,18 @@
+//! The tool's commands: what the words of iscsiadm ask for, and what each command does with the records.
+#![tactic(auto)]
+
+mod command;
+mod fault;
+mod listing;
+mod readings;
+mod rows;
+#[cfg(test)]
+mod tests;
+mod tool;
+mod words;
+mod writing;
+
+pub use command::AdminCommand;
+pub use fault::AdminFault;
+pub use tool::apply;
+pub use words::read_words;

@@ -1,0 +1,4 @@
+pub mod Options
+pub mod Parses
+pub mod Tool
+pub mod Words
