@@ -8,7 +8,7 @@ use std::alloc::Global;
 use std::process::Abort;
 use std::test::Fail;
 
-const D1: &str = "iqn.2024-01.org.example:d1";
+const DISK: &str = "iqn.2024-01.org.example:d1";
 
 #[derive(Debug, Clone, Copy, PartialEq, Eq)]
 enum Row {
@@ -29,7 +29,7 @@ static WORD_LISTS: [(&[&str], Row); 50] = [
     (&["-m", "node"], Row::List),
     (&["-mnode"], Row::List),
     (
-        &["-m", "node", "-T", D1, "-p", "127.0.0.1", "-I", "if_1"],
+        &["-m", "node", "-T", DISK, "-p", "127.0.0.1", "-I", "if_1"],
         Row::List,
     ),
     (
@@ -56,18 +56,25 @@ static WORD_LISTS: [(&[&str], Row); 50] = [
     ),
     (&["-m", "node", "-o", "delete"], Row::Delete),
     (
-        &["-m", "node", "-T", D1, "-p", "127.0.0.1", "-o", "new"],
+        &["-m", "node", "-T", DISK, "-p", "127.0.0.1", "-o", "new"],
         Row::New,
     ),
     (
-        &["-onew", "-p127.0.0.1:3261,7", "-Iif_1", "-T", D1, "-mnode"],
+        &[
+            "-onew",
+            "-p127.0.0.1:3261,7",
+            "-Iif_1",
+            "-T",
+            DISK,
+            "-mnode",
+        ],
         Row::New,
     ),
     (&["-m", "node", "-l"], Row::Login),
     (&["-lm", "node"], Row::Login),
     (&["-lmnode"], Row::Login),
     (&["-m", "node", "-lp", "127.0.0.1"], Row::Login),
-    (&["-m", "node", "-u", "-T", D1], Row::Logout),
+    (&["-m", "node", "-u", "-T", DISK], Row::Logout),
     (&["-m", "session"], Row::Sessions),
     (
         &["-m", "discovery", "-t", "st", "-p", "127.0.0.1"],
@@ -98,11 +105,11 @@ static WORD_LISTS: [(&[&str], Row); 50] = [
     (&["-m", "node", "-n", "a", "-v", "b"], Row::Invalid),
     (&["-m", "node", "-o", "update", "-n", "a"], Row::Invalid),
     (&["-m", "node", "-o", "update", "-v", "b"], Row::Invalid),
-    (&["-m", "node", "-o", "new", "-T", D1], Row::Invalid),
+    (&["-m", "node", "-o", "new", "-T", DISK], Row::Invalid),
     (&["-m", "node", "-T", "d1"], Row::Invalid),
     (&["-m", "node", "-p", "127.0.0.1:0"], Row::Invalid),
     (&["-m", "node", "-I", ""], Row::Invalid),
-    (&["-m", "session", "-T", D1], Row::Invalid),
+    (&["-m", "session", "-T", DISK], Row::Invalid),
     (
         &["-m", "discovery", "-t", "isns", "-p", "127.0.0.1"],
         Row::Invalid,
@@ -216,7 +223,7 @@ fn walk(
     Ok(())
 }
 
-const NEW: &[&str] = &["-m", "node", "-T", D1, "-p", "127.0.0.1", "-o", "new"];
+const NEW: &[&str] = &["-m", "node", "-T", DISK, "-p", "127.0.0.1", "-o", "new"];
 
 const SHOW: &[&str] = &["-m", "node", "-o", "show"];
 
@@ -304,7 +311,7 @@ static RECORDS_BY_THE_TOOL: [Step; 8] = [
         b"",
     ),
     (
-        &["-m", "node", "-o", "update", "-n", "node.name", "-v", D1],
+        &["-m", "node", "-o", "update", "-n", "node.name", "-v", DISK],
         Outcome::BadName,
         b"",
     ),
@@ -334,7 +341,14 @@ static TOOL_WORDS: [Step; 13] = [
     (&["-m", "node", "-m", "node"], Outcome::Words, b""),
     (&["-m", "session"], Outcome::NoObjects, b""),
     (
-        &["-onew", "-p127.0.0.1:3261,7", "-Iif_1", "-T", D1, "-mnode"],
+        &[
+            "-onew",
+            "-p127.0.0.1:3261,7",
+            "-Iif_1",
+            "-T",
+            DISK,
+            "-mnode",
+        ],
         Outcome::Done,
         b"",
     ),
@@ -398,7 +412,7 @@ fn session(
     portal: &str,
     current: &str,
 ) -> Result<SessionInfo, Fail> {
-    let Ok(target) = IscsiName::read(alloc, D1) else {
+    let Ok(target) = IscsiName::read(alloc, DISK) else {
         panic!(rt; "no name");
     };
     let Ok((portal, tag)) = Portal::read(alloc, portal) else {
