@@ -25,6 +25,7 @@ header_short limit n k rest chunk h h' x kept within bytes below =
     record {
       counted = len;
       header = sym (joined limit n k rest chunk h h' x kept (omega arith) bytes) ∙ sym (take_all 48 (rest ++ take k chunk) (omega (arith, len)));
+      blank = λ _. kept.blank (omega (arith, kept.counted));
       opened = λ there. absurd (omega (arith, len, there));
     }
 
@@ -40,6 +41,7 @@ header_whole limit n k rest chunk h h' x kept below bytes there long good fits =
     let made : IsKept limit h' (take 48 h') [] 48 = record {
       counted = sym long;
       header = refl;
+      blank = λ _. refl;
       opened = λ _. record {
         good = subst (λ (z : List ℕ). bad_header (basic_at z) ≡ None) (sym same) good;
         fits = subst (λ (z : List ℕ). data_len z ≤ limit) (sym same) fits;
@@ -74,6 +76,7 @@ more_data limit n k rest chunk h x x' kept begun long within grown =
     record {
       counted = len;
       header = take_all (n + k) h (omega arith) ∙ there;
+      blank = λ below. absurd (omega (arith, len, below));
       opened = λ _. record {
         good = subst (λ (z : List ℕ). bad_header (basic_at z) ≡ None) (sym still) was.good;
         fits = subst (λ (z : List ℕ). data_len z ≤ limit) (sym still) was.fits;

@@ -4,3 +4,5 @@ pub mod Steps
 pub mod Course
 pub mod Unique
 pub mod Streams
+pub mod Bytewise
+pub mod Determined

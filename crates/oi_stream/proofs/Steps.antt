@@ -55,6 +55,7 @@ made_whole limit a b chunk old mid full new w going first same second head all t
       fresh = record {
         counted = none;
         header = ap (λ (n : ℕ). take n new.head) none;
+        blank = λ _. fresh;
         opened = λ there. absurd (omega (arith, there));
       };
     }

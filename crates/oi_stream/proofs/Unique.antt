@@ -13,12 +13,12 @@ use Rattle.oi_stream.specs.Framing.{IsFrame, IsRun, OneFraming, Stop, BadHeader,
 head_same : (limit : ℕ) (front rest : List ℕ) (p : Pdu) → IsFrame limit front p → head_of (front ++ rest) ≡ head_of front
 head_same limit front rest p frame = take-append-le 48 front rest (omega (arith, frame.decodes.whole))
 
-record IsSame (p q : Pdu) (x y : List ℕ) (f g : List ℕ) : Type 0 where
-  pdu : p ≡ q
-  front : f ≡ g
-  rest : x ≡ y
+pub record IsSame (p q : Pdu) (x y : List ℕ) (f g : List ℕ) : Type 0 where
+  pub pdu : p ≡ q
+  pub front : f ≡ g
+  pub rest : x ≡ y
 
-same_frame : (limit : ℕ) (f g x y : List ℕ) (p q : Pdu) → f ++ x ≡ g ++ y → IsFrame limit f p → IsFrame limit g q → IsSame p q x y f g
+pub same_frame : (limit : ℕ) (f g x y : List ℕ) (p q : Pdu) → f ++ x ≡ g ++ y → IsFrame limit f p → IsFrame limit g q → IsSame p q x y f g
 same_frame limit f g x y p q e a b =
     let head : head_of f ≡ head_of g = sym (head_same limit f x p a) ∙ ap head_of e ∙ head_same limit g y q b in
     let size : length g ≡ length f = b.decodes.whole ∙ ap whole_len (sym head) ∙ sym a.decodes.whole in
@@ -37,7 +37,7 @@ none_is_some : (n : ℕ) → None ≡ Some n → ⊥
 none_is_some n e = cc
 
 -- no stop at the front of a whole PDU
-not_stopped : (limit : ℕ) (f x : List ℕ) (p : Pdu) (s : Stop) → IsFrame limit f p → StopsAt limit (f ++ x) s → ⊥
+pub not_stopped : (limit : ℕ) (f x : List ℕ) (p : Pdu) (s : Stop) → IsFrame limit f p → StopsAt limit (f ++ x) s → ⊥
 not_stopped limit f x p (BadHeader byte) frame stop =
     none_is_some byte (sym frame.decodes.good ∙ ap (λ (z : List ℕ). bad_header (basic_at z)) (sym (head_same limit f x p frame)) ∙ stop.1)
 not_stopped limit f x p (TooLong size) frame stop =
@@ -60,12 +60,12 @@ same_stop limit rest Short (BadHeader b) s t = absurd (none_is_some b (sym (s t.
 same_stop limit rest Short (TooLong b) s t = absurd (omega (arith, t.2, t.3, (s t.0).fits))
 same_stop limit rest Short Short s t = refl
 
-record IsOne (ps qs : List Pdu) (a b : List ℕ) (s t : Stop) : Type 0 where
-  pdus : ps ≡ qs
-  front : a ≡ b
-  stop : s ≡ t
+pub record IsOne (ps qs : List Pdu) (a b : List ℕ) (s t : Stop) : Type 0 where
+  pub pdus : ps ≡ qs
+  pub front : a ≡ b
+  pub stop : s ≡ t
 
-framed_once : (limit : ℕ) (ps qs : List Pdu) (a b x y : List ℕ) (s t : Stop) → a ++ x ≡ b ++ y → IsRun limit a ps → IsRun limit b qs → StopsAt limit x s → StopsAt limit y t → IsOne ps qs a b s t
+pub framed_once : (limit : ℕ) (ps qs : List Pdu) (a b x y : List ℕ) (s t : Stop) → a ++ x ≡ b ++ y → IsRun limit a ps → IsRun limit b qs → StopsAt limit x s → StopsAt limit y t → IsOne ps qs a b s t
 framed_once limit [] [] a b x y s t e run run' stop stop' =
     let same : x ≡ y = ap (λ (z : List ℕ). z ++ x) (sym run) ∙ e ∙ ap (λ (z : List ℕ). z ++ y) run' in
     record {

@@ -29,6 +29,7 @@ pub record IsOpened (limit : ℕ) (rest payload : List ℕ) : Type 0 where
 pub record IsKept (limit : ℕ) (rest head payload : List ℕ) (count : ℕ) : Type 0 where
   pub counted : count ≡ length rest
   pub header : head ≡ head_of rest
+  pub blank : length rest < 48 → payload ≡ []
   pub opened : 48 ≤ length rest → IsOpened limit rest payload
 
 -- the splitter stands where these bytes, of which these PDUs were handed out, have led it
@@ -40,6 +41,12 @@ pub record Follows (bytes : List ℕ) (pdus : List Pdu) (s : State) : Type 0 whe
   pub at : s.place ≡ told_long (length front)
   pub kept : IsKept s.limit rest s.head s.payload s.count
   pub cut : 48 ≤ length rest → length rest < whole_len (head_of rest)
+
+-- some bytes have led the splitter to where it stands
+pub record IsReached (s : State) : Type 0 where
+  pub bytes : List ℕ
+  pub pdus : List Pdu
+  pub follows : Follows bytes pdus s
 
 abbrev pub AreEncodable : List Pdu → Type 0
 AreEncodable [] = Unit {0}

@@ -1,3 +1,4 @@
+pub mod Bytewise
 pub mod Feeding
 pub mod Framing
 pub mod Steps

@@ -8,7 +8,10 @@ mod pieces;
 mod splitter;
 
 pub use fault::StreamFault;
-pub use laws::{followed_is_framed, one_framing};
+pub use laws::{
+    fed_follows, fed_in_a_row, fed_is_framed, fed_stays, followed_is_framed, one_framing,
+    unfed_follows,
+};
 pub use pieces::frame_pieces;
 pub use splitter::Splitter;
 

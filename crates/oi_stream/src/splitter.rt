@@ -1,5 +1,6 @@
 ghost use Rattle.std.specs.Prelude.{◌≡◌, OnOk, [], false, is_err};
-ghost use Rattle.oi_stream.specs.Feeding.{Follows, IsFed, Splits};
+ghost use Rattle.oi_stream.specs.Bytewise.{IsFedBy, unfed};
+ghost use Rattle.oi_stream.specs.Feeding.{Follows, IsFed, IsReached, Splits};
 ghost use Rattle.oi_stream.specs.Steps.{IsGoing, state_of};
 
 use crate::fault::StreamFault;
@@ -24,16 +25,18 @@ impl Model for Splitter {
 
     ghost Value = { State };
 
+    ghost use Rattle.oi_stream.specs.Feeding.{IsReached};
     ghost use Rattle.oi_stream.specs.Steps.{IsGoing, state_of};
 
     ghost view = { λ s. state_of s.limit s.place s.part s.ended };
 
-    ghost invariant = { λ s. s.ended ≡ false → IsGoing s.part };
+    ghost invariant = { λ s. s.ended ≡ false → IsGoing s.part × IsReached (state_of s.limit s.place s.part false) };
 }
 
 impl Splitter {
     /// A splitter at the front of a stream. `limit` is the greatest length of a data segment, in bytes, that it takes.
     pub fn new(alloc: Global, limit: u32) -> Splitter
+        ensures unfed { result ≡ unfed limit }
         ensures follows { Follows [] [] result }
         ensures limit { result.limit ≡ limit }
         ensures going { result.ended ≡ false }
@@ -60,7 +63,8 @@ impl Splitter {
     /// `BadHeader` and `TooLong` for the first PDU that is not whole; those before it are in `out`. `Memory` where there
     /// is none for its data or for the list.
     pub fn feed(&mut self, piece: &[u8], out: &mut Vec<Pdu>) -> Result<(), StreamFault>
-        ensures { IsFed self.old self.new piece.now out.old.items out.new.items result }
+        ensures framed { IsFed self.old self.new piece.now out.old.items out.new.items result }
+        ensures bytewise { IsFedBy self.old self.new piece.now out.old.items out.new.items result }
     {
         if self.ended {
             return Err(StreamFault::Ended { place: self.place });
@@ -80,9 +84,12 @@ fn split(
     piece: &[u8],
     out: &mut Vec<Pdu>,
 ) -> Result<(), StreamFault>
-    requires { IsGoing part.old }
+    requires going { IsGoing part.old }
+    requires reached { IsReached (state_of limit place.old part.old false) }
     ensures splits { Splits (state_of limit place.old part.old false) (state_of limit place.new part.new (is_err result)) piece.now out.old.items out.new.items result }
+    ensures bytewise { IsFedBy (state_of limit place.old part.old false) (state_of limit place.new part.new (is_err result)) piece.now out.old.items out.new.items result }
     ensures going { OnOk result (IsGoing part.new) }
+    ensures reached { OnOk result (IsReached (state_of limit place.new part.new false)) }
 {
     let mut at = 0;
     while let Some(whole) = step(part, limit, *place, &piece[at..])? {

@@ -171,5 +171,10 @@ fn printed_faults(rt: HostRuntime) -> Result<(), Fail> {
     }
     one_framing();
     followed_is_framed();
+    unfed_follows();
+    fed_is_framed();
+    fed_follows();
+    fed_stays();
+    fed_in_a_row();
     Ok(())
 }

@@ -14,7 +14,7 @@ returns-in_err-feed c =
     let i = c.loop-piece.piece-index in
     let x = c.piece-item.result in
     let fault = c.in_err-feed.field-0.0 in
-    let fed = subst (λ (z : List ℕ). IsFed c.loop-piece.splitter c.feed.new.self z c.loop-piece.out.items c.feed.new.out.items (Err fault)) c.as_slice.ensures c.in_err-feed.ensures in
+    let fed = subst (λ (z : List ℕ). IsFed c.loop-piece.splitter c.feed.new.self z c.loop-piece.out.items c.feed.new.out.items (Err fault)) c.as_slice.ensures c.in_err-feed.ensures.framed in
     rw (p.1, p.2) (framed_err c.args.limit (flat_map (λ b. b) (take i xs)) x (flat_map (λ b. b) (drop (i + 1) xs)) (flat_map (λ b. b) xs) c.args.out.now.items c.loop-piece.out.items c.feed.new.out.items c.loop-piece.splitter c.feed.new.self fault c.loop-piece.invariant fed (pieces_all xs i x (omega arith) c.piece-item.is))
 
 pub loop-piece-preserved : goal.loop-piece-preserved
@@ -22,7 +22,7 @@ loop-piece-preserved c =
     let xs = c.args.pieces.now in
     let i = c.loop-piece.piece-index in
     let x = c.piece-item.result in
-    let fed = subst (λ (z : List ℕ). IsFed c.loop-piece.splitter c.feed.new.self z c.loop-piece.out.items c.feed.new.out.items (Ok tt)) c.as_slice.ensures c.in_ok-feed.ensures in
+    let fed = subst (λ (z : List ℕ). IsFed c.loop-piece.splitter c.feed.new.self z c.loop-piece.out.items c.feed.new.out.items (Ok tt)) c.as_slice.ensures c.in_ok-feed.ensures.framed in
     subst (λ (z : List ℕ). SoFar c.args.limit z c.args.out.now.items c.feed.new.out.items c.feed.new.self) (pieces_more xs i x (omega arith) c.piece-item.is)
     (so_far_more c.args.limit (flat_map (λ b. b) (take i xs)) x c.args.out.now.items c.loop-piece.out.items c.feed.new.out.items c.loop-piece.splitter c.feed.new.self c.loop-piece.invariant fed)
 
