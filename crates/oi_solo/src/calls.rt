@@ -1,5 +1,6 @@
 ghost use Rattle.std.specs.Prelude.{◌≡◌, ◌≤◌, ◌<◌, ◌^◌, length};
 ghost use Rattle.oi_base.specs.Counts.{told};
+ghost use Rattle.oi_history.specs.Configs.{IsValidConfig};
 ghost use Rattle.oi_history.specs.Losses.{is_cause};
 ghost use Rattle.oi_history.specs.Permitted.{ArePermitted};
 ghost use Rattle.oi_history.specs.Phases.{is_ended, is_logged_in};
@@ -11,7 +12,7 @@ ghost use Rattle.oi_solo.specs.Sessions.{now_of, pending_of};
 use crate::answers::{LoginRefused, LostDone, Receipt, Received, StepRefused, SubmitRefused};
 use crate::kept::{Kept, enter, spent};
 use oi_base::LoginDone;
-use oi_history::{Delivered, Event, LostCause, Phase, Rule};
+use oi_history::{Delivered, Event, LostCause, Phase, Rule, SessionConfig};
 use oi_pdu::{Header, Pdu};
 use oi_scsi::Request;
 use oi_window::Window;
@@ -220,4 +221,19 @@ pub fn logged_out(kept: &Kept) -> bool
     ensures { result ≡ (now_of (session_of kept.now)).logged_out }
 {
     kept.ledger.logged_out()
+}
+
+pub fn config(kept: &Kept) -> SessionConfig
+    requires { IsKept kept.now }
+    ensures config { result ≡ (session_of kept.now).config }
+    ensures valid { IsValidConfig result }
+{
+    kept.ledger.config()
+}
+
+pub fn clock(kept: &Kept) -> u64
+    requires { IsKept kept.now }
+    ensures { result ≡ (now_of (session_of kept.now)).clock }
+{
+    kept.ledger.clock()
 }

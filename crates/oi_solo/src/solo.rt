@@ -142,6 +142,21 @@ impl Solo {
         calls::deliver(&mut self.kept, out)
     }
 
+    /// The settings of the session.
+    pub fn config(&self) -> SessionConfig
+        ensures config { result ≡ self.now.config }
+        ensures valid { IsValidConfig result }
+    {
+        calls::config(&self.kept)
+    }
+
+    /// The last reading of the clock, in milliseconds; 0 before the first one.
+    pub fn clock(&self) -> u64
+        ensures { result ≡ (now_of self.now).clock }
+    {
+        calls::clock(&self.kept)
+    }
+
     pub fn phase(&self) -> Phase
         ensures phase { result ≡ (now_of self.now).phase }
         ensures legal { ArePermitted self.now.config self.now.history }
