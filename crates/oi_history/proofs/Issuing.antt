@@ -1,5 +1,5 @@
 -- Submissions that come in, go out, are handed out, or lose their connection.
-use Rattle.std.proofs.Common.{◌≡◌, ◌∙◌, ◌≤◌, ◌<◌, ◌+◌, ◌-◌, ◌++◌, ℕ, suc, zero, Bool, true, false, not, cond, List, [], ◌∷◌, length, map, ap, subst, sym, refl, arith, append-nil, get_or, Some, slice_get, if◌then◌else◌, nat_lt, Result, Ok, Err, OnOk, OnErr}
+use Rattle.std.proofs.Common.{◌≡◌, ◌∙◌, ◌≤◌, ◌<◌, ◌+◌, ◌-◌, ◌++◌, ℕ, suc, zero, Bool, true, false, not, cond, List, [], ◌∷◌, length, map, ap, subst, sym, refl, arith, append-nil, get_or, Some, slice_get, if◌then◌else◌, nat_lt, Result, Ok, Err, OnErr}
 use Rattle.std.proofs.Math.ListN.{set}
 use Rattle.std.specs.VecDeque.{deque_capacity, deque_len}
 use Rattle.oi_base.specs.declared.tag.Tag.{Tag}
@@ -28,8 +28,8 @@ use Rattle.oi_recovery.specs.declared.host_code.HostCode.TheVariants.{Disrupted,
 use Rattle.oi_recovery.specs.declared.stand.Next.{Next}
 use Rattle.oi_recovery.specs.declared.stand.Next.TheVariants.{Stay, Wait, Answer, Host}
 use Rattle.oi_history.proofs.Places.{get_at}
-use Rattle.oi_history.proofs.Standing.{AreFallen, live-cons, over_self, pending-cons}
-use Rattle.oi_history.proofs.Tallied.{kept-after, over_same}
+use Rattle.oi_history.proofs.Standing.{live-cons, over_self, pending-cons}
+use Rattle.oi_history.proofs.Tallied.{over_same}
 
 -- a command goes out for one that waits
 
@@ -223,12 +223,7 @@ kept-lost a p mid new ts us at handler at_once counted h is same none =
     let off : live_in us ≡ 0 = ap live_in is ∙ none_live a at handler at_once counted 0 ts in
     record { some = h.some; tries = h.tries; live = omega (arith, off, none); room = omega arith; pending = same ∙ h.pending }
 
--- a PDU that counts, or want of memory
-
-pub kept-heard : {E : Type 0} (r : Result (Unit {0}) E) (a p : ℕ) (old new : Tally) (ts us : List Task) (vs : List Task) → AreKept a p old ts → AreFallen a ts vs → OnOk r (us ≡ vs) → OnOk r (AreCounted old new ts us)
-    → OnErr r (us ≡ ts) → OnErr r (new ≡ old) → AreKept a p new us
-kept-heard (Ok u) a p old new ts us vs h falls is counted same still = kept-after a p old new ts us h (subst (λ (z : List Task). AreFallen a ts z) (sym is) falls) counted
-kept-heard (Err e) a p old new ts us vs h falls is counted same still = subst (λ (z : List Task). AreKept a p new z) (sym same) (subst (λ (z : Tally). AreKept a p z ts) (sym still) h)
+-- want of memory
 
 pub on_err : {T E : Type 0} (r : Result T E) (P Q : Type 0) → (P → Q) → OnErr r P → OnErr r Q
 on_err (Ok u) P Q f p = p

@@ -13,3 +13,6 @@ pub mod Traced
 pub mod Released
 pub mod Turning
 pub mod Reserved
+pub mod Firsts
+pub mod Indexed
+pub mod Delivering

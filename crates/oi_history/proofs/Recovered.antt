@@ -1,5 +1,5 @@
 -- Submissions changed one after another, with their ids.
-use Rattle.std.proofs.Common.{◌≡◌, ◌∙◌, ◌+◌, ◌<◌, ◌≤◌, ℕ, suc, zero, List, [], ◌∷◌, ◌++◌, length, take, drop, sym, ap, refl, arith, add-one, get_or, Option, Some}
+use Rattle.std.proofs.Common.{◌≡◌, ◌∙◌, ◌+◌, ◌<◌, ◌≤◌, ℕ, suc, zero, List, [], ◌∷◌, ◌++◌, length, take, drop, sym, ap, refl, arith, add-one, get_or, Option, Some, None}
 use Rattle.std.proofs.Math.ListN.{set}
 use Rattle.std.specs.Option.{option_map_or}
 use Rattle.oi_history.specs.Recovering.{changed_under, map_from}
@@ -16,6 +16,10 @@ changed_far (suc id) f (t ∷ ts) h = ap (λ (z : List Task). t ∷ z) (changed_
 -- at the submission in use of a tag
 pub under : (tag : ℕ) (busy : List Allocated) (f : ℕ → Task → Task) (ts us : List Task) (id : ℕ) → holder tag busy ≡ Some id → us ≡ changed id (f id) ts → us ≡ changed_under tag busy f ts
 under tag busy f ts us id is p = p ∙ ap (λ (o : Option ℕ). option_map_or (λ k. changed k (f k) ts) o ts) (sym is)
+
+-- in use by none
+pub under_none : (tag : ℕ) (busy : List Allocated) (f : ℕ → Task → Task) (ts : List Task) → holder tag busy ≡ None → changed_under tag busy f ts ≡ ts
+under_none tag busy f ts is = ap (λ (o : Option ℕ). option_map_or (λ k. changed k (f k) ts) o ts) is
 
 set_from : (f : ℕ → Task → Task) (n : ℕ) (ts : List Task) (i : ℕ) (d : Task) → i < length ts
     → set (map_from n f (take i ts) ++ drop i ts) i (f (n + i) (get_or (map_from n f (take i ts) ++ drop i ts) i d)) ≡ map_from n f (take (suc i) ts) ++ drop (suc i) ts

@@ -1,8 +1,7 @@
 -- What befalls a submission: it takes no place of a tag more, keeps its tries below those allowed, and stays done.
-use Rattle.std.proofs.Common.{◌≡◌, ◌≤◌, ◌<◌, ◌+◌, ◌-◌, ◌==◌, ◌&&◌, ℕ, suc, zero, Bool, true, false, not, cond, List, [], ◌∷◌, length, map, ap, subst, sym, refl, arith, nat_lt, length-append, Option, Some, None, if◌then◌else◌, rules}
+use Rattle.std.proofs.Common.{◌≡◌, ◌≤◌, ◌<◌, ◌+◌, ◌-◌, ◌==◌, ◌&&◌, ℕ, suc, zero, Bool, true, false, not, cond, List, [], ◌∷◌, length, map, ap, subst, sym, refl, arith, nat_lt, length-append, if◌then◌else◌, rules}
 use Rattle.std.proofs.lemmas.Bool.Decides.{nat_tests}
 use Rattle.std.proofs.lemmas.List.Sums.{sum_by-cons}
-use Rattle.std.specs.Option.{option_map_or}
 use Rattle.oi_base.specs.declared.tag.Tag.{Tag}
 use Rattle.oi_history.specs.Blows.{blow_by}
 use Rattle.oi_history.specs.Handling.{aim_of, is_live}
@@ -216,11 +215,6 @@ pub fallen-at : (a : ℕ) (f : Task → Task) → ((t : Task) → Falls a t.fate
 fallen-at a f falls id [] = refl
 fallen-at a f falls zero (t ∷ ts) = (falls t, fallen-same a ts)
 fallen-at a f falls (suc id) (t ∷ ts) = (stays a t.fate, fallen-at a f falls id ts)
-
-pub fallen-under : (a : ℕ) (f : ℕ → Task → Task) → ((k : ℕ) (t : Task) → Falls a t.fate (f k t).fate) → (o : Option ℕ) (ts : List Task)
-    → AreFallen a ts (option_map_or (λ id. changed id (f id) ts) o ts)
-fallen-under a f falls None ts = fallen-same a ts
-fallen-under a f falls (Some id) ts = fallen-at a (f id) (falls id) id ts
 
 pub live-cons : (t : Task) (ts : List Task) → live_in (t ∷ ts) ≡ cond (is_live t.fate) 1 0 + live_in ts
 live-cons t ts = sum_by-cons (λ (x : Task). cond (is_live x.fate) 1 0) t ts

@@ -22,6 +22,7 @@ pub mod Tallies
 pub mod Blows
 pub mod Submitted
 pub mod Owing
+pub mod Indices
 pub mod Losses
 pub mod Permitted
 pub mod Trackers

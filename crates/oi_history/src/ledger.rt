@@ -15,9 +15,9 @@ use crate::phase::{Handler, LostCause, Phase};
 use crate::reply::is_done;
 use crate::rule::Rule;
 use crate::rules::{
-    asked_by, asks_for, asks_nothing, drawable, due, first_broken, first_echo, first_queued,
-    is_above, is_answer, is_broken_by, is_front, is_held, is_place, is_send, is_tag, is_timed_out,
-    is_whole, rests, sendable, sends,
+    asked_by, asks_for, asks_nothing, drawable, first_broken, first_echo, first_queued, is_above,
+    is_answer, is_broken_by, is_front, is_held, is_place, is_send, is_tag, is_timed_out, is_whole,
+    rests, sends,
 };
 use crate::submissions::Submissions;
 use crate::tables::fresh_tags;
@@ -125,6 +125,7 @@ impl Ledger {
         ensures now { IfOk result (λ l. l.now ≡ first_meanings config) }
     {
         let free = fresh_tags(alloc, 0, config.cmds_max)?;
+        let submissions = Submissions::new(alloc, config.tries)?;
         Ok(Ledger {
             config,
             tracker: Tracker {
@@ -153,7 +154,7 @@ impl Ledger {
             busy: Vec::new(alloc),
             queue: VecDeque::new(alloc),
             solicited: Vec::new(alloc),
-            submissions: Submissions::new(alloc, config.tries),
+            submissions,
         })
     }
 
@@ -365,10 +366,8 @@ impl Ledger {
     {
         match event {
             Event::Issue { id, generation, .. } => {
-                is_place(
-                    sendable(self.config.queue_depth, self.submissions.tasks()),
-                    *id,
-                ) && is_logged_in(self.tracker.phase, *generation)
+                is_place(self.submissions.sendable(self.config.queue_depth), *id)
+                    && is_logged_in(self.tracker.phase, *generation)
                     && rests(self.tracker.handler)
                     && !self.tracker.leaving
                     && is_whole(self.broken)
@@ -524,7 +523,7 @@ impl Ledger {
     {
         match event {
             Event::Deliver { count } => *count >= 1
-                && *count as usize == due(self.submissions.tasks()),
+                && *count as usize == self.submissions.count_due(),
             _ => true,
         }
     }

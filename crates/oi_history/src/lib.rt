@@ -10,6 +10,7 @@ mod course;
 mod event;
 mod fate;
 mod handling;
+mod index;
 mod ledger;
 mod ledger_steps;
 mod numbers;

@@ -3,7 +3,6 @@ use crate::fate::Delivered;
 use crate::ledger::Ledger;
 use crate::owed::Told;
 use crate::rules::is_timed_out;
-use crate::tables::due;
 use oi_base::NoMemory;
 
 impl Ledger {
@@ -70,6 +69,6 @@ impl Ledger {
     pub fn due(&self) -> Result<Vec<Delivered>, NoMemory>
         ensures { IfOk result (λ v. v.items ≡ due_in self.now.now.tasks) }
     {
-        due(self.submissions.alloc(), self.submissions.tasks())
+        self.submissions.due()
     }
 }

@@ -1,26 +1,22 @@
-ghost use Rattle.std.specs.Prelude.{◌≡◌, ◌<◌, ◌==◌, ◌&&◌, ◌↔◌, ◌∷◌, [], IsTrue, List, ℕ, None, Some, count_by, is_some, length, not, slice_get};
+ghost use Rattle.std.specs.Prelude.{◌≡◌, ◌<◌, ◌==◌, ◌&&◌, ◌↔◌, ◌∷◌, [], IsTrue, List, ℕ, None, Some, is_some, length, not, slice_get};
 ghost use Rattle.std.specs.List.{position};
 ghost use Rattle.std.specs.Option.{option_copied};
-ghost use Rattle.oi_history.specs.Handling.{is_live};
 ghost use Rattle.oi_base.specs.declared.tag.Tag.{Tag};
 ghost use Rattle.oi_history.specs.Judging.{are_over, first_broken, is_over, last_number};
 ghost use Rattle.oi_history.specs.Legality.{IsAbove};
 ghost use Rattle.oi_history.specs.Losses.{is_broken_by, is_timed_out};
-ghost use Rattle.oi_history.specs.Owing.{is_send, live_on_lun, managed_next, push_of, sendable};
+ghost use Rattle.oi_history.specs.Owing.{is_send, managed_next, push_of};
 ghost use Rattle.oi_history.specs.Queues.{drawable};
 ghost use Rattle.oi_history.specs.RuleWords.{is_rule, rule_index};
-ghost use Rattle.oi_history.specs.Tasks.{is_due, is_waiting};
 ghost use Rattle.oi_history.specs.declared.event.Event.TheVariants.{Manage};
 ghost use Rattle.oi_history.specs.declared.event.Numbered.{Numbered};
 ghost use Rattle.oi_history.specs.declared.phase.Handler.TheVariants.{Idle};
 
 use crate::allocated::Allocated;
 use crate::event::{Event, Subject};
-use crate::handling::is_live;
 use crate::owed::{Echo, Queued, Solicited};
 use crate::phase::Handler;
 use crate::queueing::is_wanted;
-use crate::reply::{is_done, is_waiting};
 use crate::rule::Rule;
 use crate::task::Task;
 use oi_base::Tag;
@@ -44,28 +40,6 @@ pub fn first_broken(rules: &[bool]) -> Option<u8>
     None
 }
 
-/// Live commands of a logical unit.
-pub fn live_on_lun(lun: u8, tasks: &[Task]) -> usize
-    ensures { result ≡ live_on_lun lun tasks.now }
-{
-    let mut count = 0;
-    for t in tasks {
-        if t.command.lun == lun && is_live(&t.fate) {
-            count += 1;
-        }
-    }
-    count
-}
-
-/// The least submission that waits and whose logical unit has room.
-pub fn sendable(depth: u16, tasks: &[Task]) -> Option<usize>
-    ensures { result ≡ sendable depth tasks.now }
-{
-    tasks.iter().position(|t| {
-        is_waiting(&t.fate) && live_on_lun(t.command.lun, tasks) < depth as usize
-    })
-}
-
 /// How many R2Ts count.
 pub fn drawable(busy: &[Allocated], tasks: &[Task], solicited: &[Solicited]) -> usize
     ensures { result ≡ length (drawable busy.now tasks.now solicited.now) }
@@ -73,25 +47,6 @@ pub fn drawable(busy: &[Allocated], tasks: &[Task], solicited: &[Solicited]) -> 
     let mut count = 0;
     for r in solicited {
         if is_wanted(busy, tasks, r) {
-            count += 1;
-        }
-    }
-    count
-}
-
-fn is_due(task: &Task) -> bool
-    ensures { result ≡ is_due task.now }
-{
-    is_done(&task.fate) && !task.told
-}
-
-/// How many submissions are done and not handed out.
-pub fn due(tasks: &[Task]) -> usize
-    ensures { result ≡ count_by is_due tasks.now }
-{
-    let mut count = 0;
-    for t in tasks {
-        if is_due(t) {
             count += 1;
         }
     }

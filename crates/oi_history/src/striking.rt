@@ -1,14 +1,12 @@
 ghost use Rattle.std.specs.Prelude.{◌≡◌, ◌≤◌, OnErr, OnOk, Some, slice_get, true};
 ghost use Rattle.oi_history.specs.Blows.{blow_by};
 ghost use Rattle.oi_history.specs.Handling.{aim_of};
-ghost use Rattle.oi_history.specs.Recovering.{changed_under, got_data, got_response, map_from};
+ghost use Rattle.oi_history.specs.Recovering.{got_data, got_response, map_from};
 ghost use Rattle.oi_history.specs.Standing.{HaveTries};
 ghost use Rattle.oi_history.specs.Tallies.{AreCounted, HasPlace, HavePlaces, IsCounted};
 ghost use Rattle.oi_history.specs.Tasks.{changed, is_waiting, issued};
 ghost use Rattle.oi_history.specs.declared.task.Task.{Task};
 
-use crate::acceptance::holder_of;
-use crate::allocated::Allocated;
 use crate::handling::aim_of;
 use crate::phase::Handler;
 use crate::recovering::{Blow, data_to, response_to, strike};
@@ -126,27 +124,24 @@ fn response_noted(
     Ok(())
 }
 
-/// A Data-In for the submission in use of its tag.
-pub fn data_under(
+/// A Data-In for the submission with this id.
+pub fn data_for(
     tasks: &mut Vec<Task>,
     tally: &mut Tally,
-    busy: &[Allocated],
     alloc: Global,
     allowed: u8,
     at: u64,
     handler: Handler,
+    id: u64,
     h: DataIn,
     payload: &[u8],
 ) -> Result<(), NoMemory>
     requires { HavePlaces tally.old tasks.old.items }
-    ensures tasks { OnOk result (tasks.new.items ≡ changed_under h.tag.0 busy.now (λ k t. got_data allowed at (aim_of handler k t) h payload.now t) tasks.old.items) }
+    ensures tasks { OnOk result (tasks.new.items ≡ changed id (λ t. got_data allowed at (aim_of handler id t) h payload.now t) tasks.old.items) }
     ensures tally { OnOk result (AreCounted tally.old tally.new tasks.old.items tasks.new.items) }
     ensures err_tasks { OnErr result (tasks.new.items ≡ tasks.old.items) }
     ensures err_tally { OnErr result (tally.new ≡ tally.old) }
 {
-    let Some(id) = holder_of(busy, h.tag) else {
-        return Ok(());
-    };
     if id >= tasks.len() as u64 {
         return Ok(());
     }
@@ -155,27 +150,24 @@ pub fn data_under(
     data_noted(task, tally, alloc, allowed, at, aim, h, payload)
 }
 
-/// A SCSI Response for the submission in use of its tag.
-pub fn response_under(
+/// A SCSI Response for the submission with this id.
+pub fn response_for(
     tasks: &mut Vec<Task>,
     tally: &mut Tally,
-    busy: &[Allocated],
     alloc: Global,
     allowed: u8,
     at: u64,
     handler: Handler,
+    id: u64,
     h: ScsiResponse,
     payload: &[u8],
 ) -> Result<(), NoMemory>
     requires { HavePlaces tally.old tasks.old.items }
-    ensures tasks { OnOk result (tasks.new.items ≡ changed_under h.tag.0 busy.now (λ k t. got_response allowed at (aim_of handler k t) h payload.now t) tasks.old.items) }
+    ensures tasks { OnOk result (tasks.new.items ≡ changed id (λ t. got_response allowed at (aim_of handler id t) h payload.now t) tasks.old.items) }
     ensures tally { OnOk result (AreCounted tally.old tally.new tasks.old.items tasks.new.items) }
     ensures err_tasks { OnErr result (tasks.new.items ≡ tasks.old.items) }
     ensures err_tally { OnErr result (tally.new ≡ tally.old) }
 {
-    let Some(id) = holder_of(busy, h.tag) else {
-        return Ok(());
-    };
     if id >= tasks.len() as u64 {
         return Ok(());
     }

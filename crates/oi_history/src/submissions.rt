@@ -1,16 +1,18 @@
+use crate::acceptance::holder_of;
 use crate::allocated::Allocated;
 use crate::command::Command;
 use crate::config::SessionConfig;
 use crate::course::{is_at_once, is_overdue};
 use crate::event::Event;
-use crate::fate::Fate;
-use crate::handling::sent_under;
+use crate::fate::{Delivered, Fate};
+use crate::handling::{live_at, sent_under};
+use crate::index::Index;
 use crate::owed::Queued;
 use crate::phase::{Handler, Phase};
 use crate::recovering::{Blow, submitted};
 use crate::rules::are_over;
-use crate::striking::{data_under, response_under, send_at, strike_all, strike_at};
-use crate::tables::{fates_of, tell_all};
+use crate::striking::{data_for, response_for, send_at, strike_all, strike_at};
+use crate::tables::{count_due, due_within, fates_of, tell_within};
 use crate::tally::Tally;
 use crate::task::Task;
 use oi_base::{NoMemory, Series, Tag};
@@ -30,11 +32,13 @@ pub struct Submissions {
     tally: Tally,
     /// Tags that are live or wait for their release, or more.
     places: usize,
+    index: Index,
 }
 
 impl Model for Submissions {
     ghost use Rattle.std.specs.Prelude.{◌-◌};
     ghost use Rattle.std.specs.VecDeque.{deque_capacity};
+    ghost use Rattle.oi_history.specs.Indices.{IsIndexed};
     ghost use Rattle.oi_history.specs.Submitted.{AreKept, SubmissionsView};
 
     ghost Value = { SubmissionsView };
@@ -46,7 +50,7 @@ impl Model for Submissions {
       takes = deque_capacity s.tally.ended - s.places;
     } };
 
-    ghost invariant = { λ s. AreKept s.allowed s.places s.tally s.tasks.items };
+    ghost invariant = { λ s. AreKept s.allowed s.places s.tally s.tasks.items × IsIndexed s.index s.tasks.items };
 }
 
 impl Submissions {
@@ -56,21 +60,23 @@ impl Submissions {
     ghost use Rattle.oi_history.specs.Judging.{are_over};
     ghost use Rattle.oi_history.specs.Meanings.{ended_step, tags_over};
     ghost use Rattle.oi_history.specs.Courses.{is_overdue};
+    ghost use Rattle.oi_history.specs.Owing.{sendable};
     ghost use Rattle.oi_pdu.specs.declared.header.Header.TheVariants.{DataIn as DataInPdu, ScsiResponse as ResponsePdu};
     ghost use Rattle.oi_recovery.specs.declared.hit.Hit.TheVariants.{ReplacementPast};
     ghost use Rattle.oi_history.specs.Recovering.{carried_out, hit_by, lost_by, map_from, submitted_in, tasks_heard, tasks_step};
     ghost use Rattle.oi_history.specs.Submitted.{AreMoved, AreStepped, Waits, brings, taken_by};
-    ghost use Rattle.oi_history.specs.Tasks.{changed, is_done, is_waiting, issued, told_task};
+    ghost use Rattle.oi_history.specs.Tasks.{changed, due_in, is_done, is_due, is_waiting, issued, told_task};
     ghost use Rattle.oi_history.specs.declared.task.Task.{Task};
 
     /// None yet; each may use so many tries.
-    pub fn new(alloc: Global, allowed: u8) -> Submissions
+    pub fn new(alloc: Global, allowed: u8) -> Result<Submissions, NoMemory>
         requires { 1 ≤ allowed }
-        ensures allowed { result.allowed ≡ allowed }
-        ensures tasks { result.tasks ≡ [] }
-        ensures ended { result.ended ≡ [] }
+        ensures allowed { IfOk result (λ s. s.allowed ≡ allowed) }
+        ensures tasks { IfOk result (λ s. s.tasks ≡ []) }
+        ensures ended { IfOk result (λ s. s.ended ≡ []) }
     {
-        Submissions {
+        let index = Index::new(alloc)?;
+        Ok(Submissions {
             alloc,
             allowed,
             tasks: Vec::new(alloc),
@@ -79,7 +85,8 @@ impl Submissions {
                 pending: 0,
             },
             places: 0,
-        }
+            index,
+        })
     }
 
     pub fn tasks(&self) -> &[Task]
@@ -93,6 +100,27 @@ impl Submissions {
         ensures { result ≡ count_by (λ t. not (is_done t.fate)) self.now.tasks }
     {
         self.tally.pending
+    }
+
+    /// The least that waits and whose logical unit has room for one more, where so many may be live on each.
+    pub fn sendable(&self, depth: u16) -> Option<usize>
+        ensures { result ≡ sendable depth self.now.tasks }
+    {
+        self.index.sendable(depth)
+    }
+
+    /// Copies of the outcomes that are due, in ascending id.
+    pub fn due(&self) -> Result<Vec<Delivered>, NoMemory>
+        ensures { IfOk result (λ v. v.items ≡ due_in self.now.tasks) }
+    {
+        due_within(self.alloc, &self.tasks, self.index.low, self.index.high)
+    }
+
+    /// How many are due.
+    pub fn count_due(&self) -> usize
+        ensures { result ≡ count_by is_due self.now.tasks }
+    {
+        count_due(&self.tasks, self.index.low, self.index.high)
     }
 
     pub fn alloc(&self) -> Global {
@@ -146,6 +174,7 @@ impl Submissions {
     fn strike(&mut self, at: u64, blow: Blow, id: u64)
         ensures { AreMoved self.old self.new (changed id (blow_by self.old.allowed at blow id) self.old.tasks) }
     {
+        let was_live = live_at(id, &self.tasks);
         strike_at(
             &mut self.tasks,
             &mut self.tally,
@@ -155,6 +184,7 @@ impl Submissions {
             blow,
             id,
         );
+        self.index.note(&self.tasks, id, was_live);
     }
 
     // What befalls all.
@@ -169,6 +199,7 @@ impl Submissions {
             at,
             blow,
         );
+        self.index.build(&self.tasks);
     }
 
     // The request of the error handler was carried out.
@@ -197,17 +228,23 @@ impl Submissions {
         ensures ok { OnOk result (AreMoved self.old self.new (tasks_heard self.old.allowed at handler busy.now (DataInPdu h) payload.now self.old.tasks)) }
         ensures err { OnErr result (self.new ≡ self.old) }
     {
-        data_under(
+        let Some(id) = holder_of(busy, h.tag) else {
+            return Ok(());
+        };
+        let was_live = live_at(id, &self.tasks);
+        data_for(
             &mut self.tasks,
             &mut self.tally,
-            busy,
             self.alloc,
             self.allowed,
             at,
             handler,
+            id,
             h,
             payload,
-        )
+        )?;
+        self.index.note(&self.tasks, id, was_live);
+        Ok(())
     }
 
     // A SCSI Response for the submission in use of its tag.
@@ -222,17 +259,23 @@ impl Submissions {
         ensures ok { OnOk result (AreMoved self.old self.new (tasks_heard self.old.allowed at handler busy.now (ResponsePdu h) payload.now self.old.tasks)) }
         ensures err { OnErr result (self.new ≡ self.old) }
     {
-        response_under(
+        let Some(id) = holder_of(busy, h.tag) else {
+            return Ok(());
+        };
+        let was_live = live_at(id, &self.tasks);
+        response_for(
             &mut self.tasks,
             &mut self.tally,
-            busy,
             self.alloc,
             self.allowed,
             at,
             handler,
+            id,
             h,
             payload,
-        )
+        )?;
+        self.index.note(&self.tasks, id, was_live);
+        Ok(())
     }
 
     // A PDU that counts.
@@ -267,7 +310,9 @@ impl Submissions {
         let task = submitted(self.alloc, phase, at, command);
         self.tasks.reserve(1)?;
         self.tally.add(&task.fate);
+        let count = self.tasks.len();
         self.tasks.push_reserved(task);
+        self.index.add(&self.tasks, count);
         Ok(())
     }
 
@@ -280,7 +325,9 @@ impl Submissions {
         ensures ended { self.new.ended ≡ self.old.ended ++ tags_over self.old.tasks (changed id (issued generation tag) self.old.tasks) }
         ensures takes { self.new.takes + 1 ≡ self.old.takes }
     {
+        let was_live = live_at(id, &self.tasks);
         send_at(&mut self.tasks, self.allowed, id, generation, tag);
+        self.index.note(&self.tasks, id, was_live);
         self.places += 1;
     }
 
@@ -288,7 +335,8 @@ impl Submissions {
     fn tell(&mut self)
         ensures { AreMoved self.old self.new (map told_task self.old.tasks) }
     {
-        tell_all(&mut self.tasks);
+        tell_within(&mut self.tasks, self.index.low, self.index.high);
+        self.index.settle();
     }
 
     // The connection is lost: no command is live, and no tag waits for its release.
@@ -311,6 +359,7 @@ impl Submissions {
             at,
             loss,
         );
+        self.index.build(&self.tasks);
         self.tally.ended.clear();
         self.places = 0;
     }

@@ -1,9 +1,10 @@
 ghost use Rattle.std.specs.Prelude.{◌≡◌, ◌++◌, ◌<◌, ◌≤◌, ◌+◌, IfOk, OnOk, OnErr, length, map, filter, not, ◌==◌, count_by, vec_len, Some, [], ◌∷◌, slice_get, if◌then◌else◌};
 ghost use Rattle.std.specs.Vec.{vec_capacity};
+ghost use Rattle.oi_history.specs.Indices.{AreSettledBut};
 ghost use Rattle.oi_history.specs.Snapshots.{ended_by_step};
 ghost use Rattle.oi_history.specs.Tags.{fresh_tags};
 ghost use Rattle.oi_history.specs.declared.task.Task.{Task};
-ghost use Rattle.oi_history.specs.Tasks.{changed, cut_off, data_step, due_in, due_of, is_done, issued, response_step, told_task, tries_of, waiting_in};
+ghost use Rattle.oi_history.specs.Tasks.{changed, cut_off, data_step, due_in, due_of, is_done, is_due, issued, response_step, told_task, tries_of, waiting_in};
 
 use crate::allocated::Allocated;
 use crate::fate::{Delivered, Fate};
@@ -116,11 +117,25 @@ pub fn cut_all(tasks: &mut Vec<Task>, alloc: Global, allowed: u8, at: u64)
 }
 
 /// All that are done are handed out.
+#[tactic(auto, using(crate::proofs::Delivering::all_within))]
 pub fn tell_all(tasks: &mut Vec<Task>)
     ensures { tasks.new.items ≡ map told_task tasks.old.items }
 {
-    for task in tasks.iter_mut() {
+    let count = tasks.len();
+    tell_within(tasks, 0, count);
+}
+
+/// All that are done are handed out, where a delivery changes none below `low`, nor any at or above `high`.
+pub fn tell_within(tasks: &mut Vec<Task>, low: usize, high: usize)
+    requires { AreSettledBut low high tasks.old.items }
+    ensures { tasks.new.items ≡ map told_task tasks.old.items }
+{
+    let end = high.min(tasks.len());
+    let mut id = low;
+    while id < end {
+        let task = &mut tasks[id];
         tell(task);
+        id += 1;
     }
 }
 
@@ -146,14 +161,54 @@ fn add_due(alloc: Global, id: u64, task: &Task, out: &mut Vec<Delivered>) -> Res
 }
 
 /// Copies of the outcomes that are due, in ascending id.
+#[tactic(auto, using(crate::proofs::Delivering::all_within))]
 pub fn due(alloc: Global, tasks: &[Task]) -> Result<Vec<Delivered>, NoMemory>
     ensures { IfOk result (λ v. v.items ≡ due_in tasks.now) }
 {
+    due_within(alloc, tasks, 0, tasks.len())
+}
+
+/// The same, where none is due below `low`, nor at or above `high`.
+pub fn due_within(
+    alloc: Global,
+    tasks: &[Task],
+    low: usize,
+    high: usize,
+) -> Result<Vec<Delivered>, NoMemory>
+    requires { AreSettledBut low high tasks.now }
+    ensures { IfOk result (λ v. v.items ≡ due_in tasks.now) }
+{
+    let end = high.min(tasks.len());
     let mut out = Vec::new(alloc);
-    for (id, task) in tasks.iter().enumerate() {
-        add_due(alloc, id as u64, task, &mut out)?;
+    let mut id = low;
+    while id < end {
+        add_due(alloc, id as u64, &tasks[id], &mut out)?;
+        id += 1;
     }
     Ok(out)
+}
+
+fn is_due(task: &Task) -> bool
+    ensures { result ≡ is_due task.now }
+{
+    is_done(&task.fate) && !task.told
+}
+
+/// How many are due, where none is below `low`, nor at or above `high`.
+pub fn count_due(tasks: &[Task], low: usize, high: usize) -> usize
+    requires { AreSettledBut low high tasks.now }
+    ensures { result ≡ count_by is_due tasks.now }
+{
+    let end = high.min(tasks.len());
+    let mut count = 0;
+    let mut id = low;
+    while id < end {
+        if is_due(&tasks[id]) {
+            count += 1;
+        }
+        id += 1;
+    }
+    count
 }
 
 /// Where the submissions stand, by id.

@@ -11,7 +11,7 @@ use crate::owing::{
     queued_owed,
 };
 use crate::requests::{data_out, logout_pdu, management_pdu, nop_pdu, referenced, subject_lun};
-use crate::rules::{is_send, sendable};
+use crate::rules::is_send;
 use crate::sending::command_pdu;
 use oi_base::{NoMemory, Tag};
 use oi_pdu::Pdu;
@@ -171,7 +171,7 @@ impl Ledger {
         if tag.is_none() {
             return None;
         }
-        let id = sendable(self.config.queue_depth, self.submissions.tasks());
+        let id = self.submissions.sendable(self.config.queue_depth);
         issue_owed(self.generation, self.window.next().0, id, tag)
     }
 
