@@ -1,6 +1,0 @@
-use Rattle.std.proofs.Common.{◌≡◌, take}
-use Rattle.oi_history.specs.Tasks.{due_from}
-use Rattle.oi_history.proofs.tables.due.Given as goal
-
-abbrev pub invariant-loop-id : goal.invariant-loop-id
-invariant-loop-id l = l.out.items ≡ due_from 0 (take l.id l.tasks)
