@@ -1,4 +1,3 @@
 pub mod Counts
-pub mod Outputs
 pub mod Shapes
 pub mod Shown

@@ -1,9 +1,9 @@
 -- What a command of the tool does with the records, the store and the output.
-use Rattle.std.specs.Prelude.{◌≡◌, ◌≤◌, ◌<◌, ℕ, Bool, true, false, List, take, Option, Result, Ok, Err, length}
+use Rattle.std.specs.Prelude.{◌≡◌, ◌<◌, ℕ, Bool, true, false, List, Option, Result, Ok, Err, length}
 use Rattle.oi_base.specs.Counts.{Rose}
 use Rattle.oi_names.specs.declared.session_key.SessionInfo.{SessionInfo}
 use Rattle.oi_outside.specs.Records.{Records}
-use Rattle.oi_outside.specs.Streams.{behind}
+use Rattle.oi_outside.specs.Streams.{IsFront, behind}
 use Rattle.oi_settings.specs.Keys.{Key}
 use Rattle.oi_settings.specs.Texts.{Node}
 use Rattle.oi_nodedb.specs.declared.error.DbError.{DbError}
@@ -32,10 +32,6 @@ fault_of other = Db other
 abbrev pub answer_of : {T : Type 0} → Result T DbError → Result (Unit {0}) AdminFault
 answer_of (Ok x) = Ok tt
 answer_of (Err e) = Err (fault_of e)
-
--- a front of the text was taken
-abbrev pub IsFront : List ℕ → Option (List ℕ) → Option (List ℕ) → Type 0
-IsFront text held now = (n : ℕ) × (n ≤ length text) × (now ≡ behind held (take n text))
 
 -- a text was printed, of which a sink that failed has a front; nothing is printed where there is nothing to list
 abbrev pub Prints : ℕ → List ℕ → Result (Unit {0}) AdminFault → Option (List ℕ) → Option (List ℕ) → Type 0

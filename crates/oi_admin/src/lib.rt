@@ -10,7 +10,6 @@ mod rows;
 mod tests;
 mod tool;
 mod words;
-mod writing;
 
 pub use command::AdminCommand;
 pub use fault::AdminFault;

@@ -6,11 +6,10 @@ ghost use Rattle.oi_admin.specs.Listings.{list_text, session_text, show_text};
 use crate::command::AdminCommand;
 use crate::fault::AdminFault;
 use crate::listing::{list_text, session_text, show_text};
-use crate::writing::write_all;
 use oi_base::NoMemory;
 use oi_names::SessionInfo;
 use oi_nodedb::{DbError, Filter, NodeDb};
-use oi_outside::{RecordStore, Sink};
+use oi_outside::{RecordStore, Sink, write_all};
 use oi_settings::RecordKey;
 use std::alloc::Global;
 

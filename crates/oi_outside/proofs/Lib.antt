@@ -1,6 +1,7 @@
 pub mod FarNets
 pub mod MemLinks
 pub mod MemNets
+pub mod Outputs
 pub mod Places
 pub mod Records
 pub mod Stores

@@ -26,3 +26,8 @@ Writes (Err e) piece old new = new ≡ old
 abbrev pub IsCounted : {T : Type 0} → Result T Failed → ℕ → ℕ → Type 0
 IsCounted (Ok x) before now = now ≡ before
 IsCounted (Err e) before now = Rose before now
+
+-- a front of the text was taken
+pub record IsFront (text : List ℕ) (held0 held : Option (List ℕ)) : Type 0 where
+  pub count : ℕ
+  pub is : held ≡ behind held0 (take count text)

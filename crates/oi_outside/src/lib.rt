@@ -33,6 +33,7 @@ mod store_error;
 #[cfg(test)]
 mod tests;
 mod waiting_end;
+mod writing;
 
 pub use clock::Clock;
 pub use failed::Failed;
@@ -57,3 +58,4 @@ pub use schedule::{LinkFail, Schedule};
 pub use sink::Sink;
 pub use source::Source;
 pub use store_error::StoreError;
+pub use writing::write_all;

@@ -1,14 +1,17 @@
-ghost use Rattle.std.specs.Prelude.{◌≡◌, length, ℕ, List, Some, OnOk, codes, true, false};
+ghost use Rattle.std.specs.Prelude.{◌≡◌, length, ℕ, List, [], Some, OnOk, codes, true, false};
 ghost use Rattle.oi_base.specs.Counts.{Rose};
 ghost use Rattle.oi_drive.specs.Answered.{AreAnswered, AreOnce};
 ghost use Rattle.oi_drive.specs.Endings.{AreEnded, AreLeft, HasCause, IsDrive};
 ghost use Rattle.oi_drive.specs.Parts.{IsFront};
 ghost use Rattle.oi_outside.specs.Streams.{IsCounted, behind};
-ghost use Rattle.oi_top.specs.Words.{IsRefused, is_drive};
+ghost use Rattle.oi_tool.specs.Asking.{AreRefused};
+ghost use Rattle.oi_tool.specs.Runs.{IsTool};
+ghost use Rattle.oi_top.specs.Words.{IsRefused, is_drive, is_tool, tool_words};
 
+use crate::tool_call::call_tool;
 use oi_base::Series;
 use oi_drive::{Ended, drive_main, write_all};
-use oi_outside::{Failed, Sink, Source};
+use oi_outside::{Failed, RecordStore, Sink, Source};
 use std::alloc::Global;
 
 fn is_drive(words: &[String]) -> bool
@@ -16,6 +19,15 @@ fn is_drive(words: &[String]) -> bool
 {
     match words {
         [word] => word.as_bytes() == b"drive".as_slice(),
+        _ => false,
+    }
+}
+
+fn is_tool(words: &[String]) -> bool
+    ensures { result ≡ is_tool words.now }
+{
+    match words {
+        [_, word, ..] => word.as_bytes() == b"iscsiadm".as_slice(),
         _ => false,
     }
 }
@@ -39,13 +51,14 @@ fn refuse<K: Sink>(alloc: Global, sink: &mut K) -> Ended
     }
 }
 
-/// The program with these words. `drive` replays a session from its input lines; other words are refused, and then
-/// the input is not read.
-pub fn iscsi_main<S: Source, K: Sink>(
+/// The program with these words. `drive` replays a session from its input lines, and `DIR iscsiadm WORD..` carries words
+/// of the tool out over the store, which stands for the folder. Other words are refused.
+pub fn iscsi_main<S: Source, K: Sink, R: RecordStore>(
     alloc: Global,
     words: &[String],
     source: &mut S,
     sink: &mut K,
+    store: &mut R,
 ) -> Ended
     ensures legal { AreEnded result.runs }
     ensures once { AreOnce result.runs }
@@ -56,11 +69,17 @@ pub fn iscsi_main<S: Source, K: Sink>(
     ensures cause { HasCause result.status (S.faults source.old) (S.faults source.new) (K.faults sink.old) (K.faults sink.new) }
     ensures left { is_drive words.now ≡ true → AreLeft (S.left source.old) (S.left source.new) result.runs result.status (K.held sink.old) (K.held sink.new)
         (S.faults source.old) (S.faults source.new) (K.faults sink.old) (K.faults sink.new) }
-    ensures refused { is_drive words.now ≡ false → IsRefused result.status result.runs (K.held sink.old) (K.held sink.new) (K.faults sink.old) (K.faults sink.new) }
+    ensures tool { is_tool words.now ≡ true → (result.runs ≡ []) × IsTool (tool_words words.now) result.status (R.records store.old) (R.records store.new) (K.held sink.old) (K.held sink.new)
+        (R.faults store.old) (R.faults store.new) (K.faults sink.old) (K.faults sink.new) }
+    ensures untouched { is_tool words.now ≡ true → AreRefused (tool_words words.now) → store.new ≡ store.old }
+    ensures refused { is_drive words.now ≡ false → is_tool words.now ≡ false → IsRefused result.status result.runs (K.held sink.old) (K.held sink.new) (K.faults sink.old) (K.faults sink.new) }
     ensures unread { is_drive words.now ≡ false → source.new ≡ source.old }
+    ensures apart { is_tool words.now ≡ false → store.new ≡ store.old }
 {
     if is_drive(words) {
         drive_main(alloc, source, sink)
+    } else if is_tool(words) {
+        call_tool(alloc, words, sink, store)
     } else {
         refuse(alloc, sink)
     }

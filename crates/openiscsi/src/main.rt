@@ -1,8 +1,9 @@
-//! `openiscsi`: the initiator over the standard streams.
+//! `openiscsi`: the initiator over the standard streams and a folder of records.
 #![tactic(auto)]
 
-use oi_net::{StdSink, StdSource};
+use oi_net::{FolderStore, StdSink, StdSource};
 use oi_top::iscsi_main;
+use std::path::PathBuf;
 use std::process::ExitCode;
 use std::{env, io};
 
@@ -16,12 +17,24 @@ fn words(rt: &HostRuntime) -> io::Result<Vec<String>> {
     Ok(words)
 }
 
+// The folder that the first word names.
+fn folder(rt: &HostRuntime, words: &[String]) -> io::Result<PathBuf> {
+    match words.first() {
+        Some(word) => Ok(PathBuf::from_str(rt.alloc(), word.as_str())?),
+        None => Ok(PathBuf::new(rt.alloc())),
+    }
+}
+
 fn main(rt: HostRuntime) -> ExitCode {
     let Ok(words) = words(&rt) else {
         return ExitCode::from(WANT_OF_MEMORY);
     };
+    let Ok(folder) = folder(&rt, &words) else {
+        return ExitCode::from(WANT_OF_MEMORY);
+    };
     let mut source = StdSource::new(rt.reader());
     let mut sink = StdSink::new(io::writer(&rt));
-    let ended = iscsi_main(rt.alloc(), words.as_slice(), &mut source, &mut sink);
+    let mut store = FolderStore::at(rt, folder);
+    let ended = iscsi_main(rt.alloc(), &words, &mut source, &mut sink, &mut store);
     ExitCode::from(ended.status)
 }

@@ -1,8 +1,8 @@
 ghost use Rattle.std.specs.Prelude.{◌≡◌, ◌≤◌, ◌<◌, ◌-◌, IfOk, OnErr, OnOk, drop, length, take};
-ghost use Rattle.oi_outside.specs.Streams.{IsCounted, behind};
-ghost use Rattle.oi_admin.specs.Applies.{IsFront};
+ghost use Rattle.oi_outside.specs.Streams.{IsCounted, IsFront, behind};
 
-use oi_outside::{Failed, Sink};
+use crate::failed::Failed;
+use crate::sink::Sink;
 
 // Writes one front of what is left, and answers where the next one begins.
 fn write_from<K: Sink>(sink: &mut K, bytes: &[u8], at: usize) -> Result<usize, Failed>

@@ -1,6 +1,6 @@
 use Rattle.std.proofs.Common.{◌∙◌}
-use Rattle.oi_admin.proofs.Outputs.{written_more}
-use Rattle.oi_admin.proofs.writing.write_all.Goals as goal
+use Rattle.oi_outside.proofs.Outputs.{written_more}
+use Rattle.oi_outside.proofs.writing.write_all.Goals as goal
 
 pub loop-at-preserved : goal.loop-at-preserved
 loop-at-preserved g c = (

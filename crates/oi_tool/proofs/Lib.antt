@@ -1,0 +1,5 @@
+pub mod Changes
+pub mod Comings
+pub mod Counts
+pub mod Endings
+pub mod Fits

@@ -1,0 +1,5 @@
+pub mod Answers
+pub mod Asking
+pub mod Outcomes
+pub mod Runs
+pub mod Stops
