@@ -1,18 +1,18 @@
 -- A closed run has answered each of its submissions.
-use Rattle.std.proofs.Common.{◌≡◌, ◌+◌, ◌∙◌, ◌++◌, ℕ, true, false, List, [], ◌∷◌, length, map, refl, ap, sym, subst, arith, nat_eq, Bool, Result, Ok, Err, OnOk, if◌then◌else◌}
+use Rattle.std.proofs.Common.{◌≡◌, ◌∙◌, ◌++◌, ◌<◌, ◌==◌, ◌+◌, ℕ, true, false, List, [], ◌∷◌, length, map, refl, ap, sym, subst, arith, nat_eq, nat_lt, Bool, Result, Ok, Err, OnOk, if◌then◌else◌}
 use Rattle.std.proofs.lemmas.Bool.Decides.{nat_tests}
 use Rattle.oi_drive.specs.Answered.{AreAnswered, AreOnce}
-use Rattle.oi_drive.specs.Worlds.{delivered, due_of_session}
-use Rattle.oi_history.specs.Legality.{IsLegal}
+use Rattle.oi_drive.specs.Deeds.{Deed, due_of_session, hands_out, hands_out_by, nothing}
+use Rattle.oi_history.specs.Permitted.{ArePermitted}
 use Rattle.oi_history.specs.Phases.{is_ended}
 use Rattle.oi_history.specs.Tasks.{due_from, due_in, due_of, told_task}
 use Rattle.oi_history.specs.declared.fate.Delivered.{Delivered}
 use Rattle.oi_history.specs.declared.fate.Fate.{Fate}
 use Rattle.oi_history.specs.declared.fate.Fate.TheVariants.{Waiting, Live, Done}
 use Rattle.oi_history.specs.declared.task.Task.{Task}
-use Rattle.oi_laws.proofs.Ends.{exactly_once}
-use Rattle.oi_laws.proofs.Handed.{at_most_once}
-use Rattle.oi_session.specs.Sessions.{RunView, Session, now_of, run_of}
+use Rattle.oi_session_laws.proofs.Handed.{at_most_once, exactly_once}
+use Rattle.oi_session_laws.proofs.Counted.{ids_in_order}
+use Rattle.oi_solo.specs.Sessions.{RunView, Session, entered_all, now_of, run_of}
 
 none_of : (base : ℕ) (t : Task) (f : Fate) → t.fate ≡ f → due_of base (told_task t) f ≡ []
 none_of base t (Waiting tries) is = refl
@@ -30,22 +30,28 @@ no_element : (ds : List Delivered) → nat_eq (length ds) 0 ≡ true → ds ≡ 
 no_element [] is = refl
 no_element (d ∷ ds) is = let none : length (d ∷ ds) ≡ 0 = same_count (length (d ∷ ds)) 0 is in absurd (omega (arith, none))
 
-chosen_none : (b : Bool) (x y : Session) → (b ≡ true → due_in (now_of x).tasks ≡ []) → due_in (now_of y).tasks ≡ [] → due_in (now_of (if b then x else y)).tasks ≡ []
-chosen_none true x y p q = p refl
-chosen_none false x y p q = q
+due_by : (b : Bool) (s : Session) → is_ended (now_of s).phase ≡ true → nat_eq (length (due_of_session s)) 0 ≡ b
+    → due_in (now_of (entered_all s (let d : Deed = if b then nothing else hands_out_by (is_ended (now_of s).phase) s (due_of_session s) in d).entries)).tasks ≡ []
+due_by true s over is = no_element (due_of_session s) is
+due_by false s over is =
+    subst (λ (b : Bool). due_in (now_of (entered_all s (hands_out_by b s (due_of_session s)).entries)).tasks ≡ []) (sym over) (none_told 0 (now_of s).tasks)
 
--- behind a delivery nothing is due
-pub nothing_due : (s : Session) → due_in (now_of (delivered s)).tasks ≡ []
-nothing_due s = chosen_none (nat_eq (length (due_of_session s)) 0) s _ (no_element (due_of_session s)) (none_told 0 (now_of s).tasks)
+-- behind the last delivery nothing is due
+pub nothing_due : (s : Session) → is_ended (now_of s).phase ≡ true → due_in (now_of (entered_all s (hands_out s).entries)).tasks ≡ []
+nothing_due s over = due_by (nat_eq (length (due_of_session s)) 0) s over refl
 
 -- what follows from an answer that is Ok
 pub ok_then : {T E : Type 0} (r : Result T E) (P Q : Type 0) → (P → Q) → OnOk r P → OnOk r Q
 ok_then (Ok x) P Q f p = f p
 ok_then (Err e) P Q f p = tt
 
-pub once_of : (s : Session) (runs : List RunView) → runs ≡ run_of s ∷ [] → IsLegal s.config s.history → AreOnce runs
+pub once_of : (s : Session) (runs : List RunView) → runs ≡ run_of s ∷ [] → ArePermitted s.config s.history → AreOnce runs
 once_of s runs is legal = subst (λ (rs : List RunView). AreOnce rs) (sym is) (λ id. at_most_once s.config s.history legal id, tt)
 
-pub answered_of : (s : Session) (runs : List RunView) → runs ≡ run_of s ∷ [] → IsLegal s.config s.history → is_ended (now_of s).phase ≡ true → due_in (now_of s).tasks ≡ [] → AreAnswered runs
+less_test : (a b : ℕ) → a < b → nat_lt a b ≡ true
+less_test a b h = grind (arith, nat_tests)
+
+pub answered_of : (s : Session) (runs : List RunView) → runs ≡ run_of s ∷ [] → ArePermitted s.config s.history → is_ended (now_of s).phase ≡ true → due_in (now_of s).tasks ≡ [] → AreAnswered runs
 answered_of s runs is legal ended none =
-    subst (λ (rs : List RunView). AreAnswered rs) (sym is) (record { session = s; is = refl; once = λ id less. exactly_once s.config s.history legal ended none id less }, tt)
+    subst (λ (rs : List RunView). AreAnswered rs) (sym is)
+    (record { session = s; is = refl; once = λ id less. exactly_once s.config s.history legal ended none id (ids_in_order s.config s.history legal id ∙ less_test id _ less) }, tt)

@@ -1,16 +1,16 @@
 -- Where a replay broke off.
 use Rattle.std.proofs.Common.{◌≡◌, ◌∙◌, ℕ, suc, zero, List, [], ◌∷◌, ◌++◌, Option, Some, None, Result, Ok, Err, OnErr, take, drop, ◌≤◌, sym, ap, subst, refl, arith, append_assoc}
 use Rattle.oi_drive.proofs.Outputs.{behind-append, behind_none}
-use Rattle.oi_drive.proofs.Parts.{nothing, same, step_more}
+use Rattle.oi_drive.proofs.Parts.{nothing_done, whole_step}
 use Rattle.oi_drive.proofs.Readings.{IsFed, feed-append, feed_text-append}
 use Rattle.oi_drive.specs.Inputs.{BreaksBy}
 use Rattle.oi_drive.specs.Parts.{BrokeIn, BrokeOff, IsBetween, IsFront, IsPartly}
-use Rattle.oi_drive.specs.Worlds.{World, feed, feed_text, line_step, line_text}
+use Rattle.oi_drive.specs.Worlds.{World, feed, feed_text, line_base, line_entries, line_step, line_text}
 use Rattle.oi_drive.specs.Writes.{Counts, Prints}
 use Rattle.oi_drive.specs.declared.runner.Broken.{Broken}
 use Rattle.oi_drive.specs.declared.runner.Broken.TheVariants.{Memory, Read, Write}
 use Rattle.oi_outside.specs.Streams.{behind, in_front}
-use Rattle.oi_session.specs.Sessions.{Session}
+use Rattle.oi_solo.specs.Sessions.{Session}
 
 pub no_text : (text : List ℕ) (held : Option (List ℕ)) → IsFront text held held
 no_text text held = record { count = 0; is = sym (behind_none held) }
@@ -18,19 +18,16 @@ no_text text held = record { count = 0; is = sym (behind_none held) }
 -- nothing of the line was done or printed
 pub not_begun : (w v : World) (held0 held : Option (List ℕ)) → v.session ≡ w.session → held ≡ held0 → IsPartly w v held0 held
 not_begun w v held0 held kept quiet = record {
-  entries = subst (λ (s : Session). IsBetween w.session (line_step w).session s) (sym kept) (nothing w);
+  entries = nothing_done w v.session kept;
   text = subst (λ (h : Option (List ℕ)). IsFront (line_text w) held0 h) (sym quiet) (no_text (line_text w) held0);
 }
 
 -- some of its entries were made, and nothing printed
-pub not_printed : (w v : World) (held0 held : Option (List ℕ)) → IsBetween w.session (line_step w).session v.session → held ≡ held0 → IsPartly w v held0 held
+pub not_printed : (w v : World) (held0 held : Option (List ℕ)) → IsBetween w.session (line_base w) (line_entries w) v.session → held ≡ held0 → IsPartly w v held0 held
 not_printed w v held0 held part quiet = record {
   entries = part;
   text = subst (λ (h : Option (List ℕ)). IsFront (line_text w) held0 h) (sym quiet) (no_text (line_text w) held0);
 }
-
-whole_step : (w v : World) → v ≡ line_step w → IsBetween w.session (line_step w).session v.session
-whole_step w v is = subst (λ (z : World). IsBetween w.session (line_step w).session z.session) (sym is) (record { made = step_more w; rest = same (line_step w).session })
 
 -- its entries were made, and its text printed in part
 pub line_printed : (r : Result (Unit {0}) Broken) (w v : World) (held0 held : Option (List ℕ)) (faults0 faults : ℕ) → v ≡ line_step w → Prints r (line_text w) held0 held faults0 faults
@@ -135,3 +132,7 @@ pub broke_by : (b : Broken) (text : List ℕ) (held0 held : Option (List ℕ)) (
 broke_by Read text held0 held source0 source sink0 sink quiet p = absurd p
 broke_by Memory text held0 held source0 source sink0 sink quiet p = (quiet, p)
 broke_by Write text held0 held source0 source sink0 sink quiet p = (p, quiet)
+
+pub on_error : {T E : Type 0} (r : Result T E) (P : Type 0) → P → OnErr r P
+on_error (Ok x) P p = tt
+on_error (Err e) P p = p

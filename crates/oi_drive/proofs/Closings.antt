@@ -1,18 +1,27 @@
 -- A run whose input was read and that was closed is the run of its bytes.
-use Rattle.std.proofs.Common.{◌≡◌, ◌∙◌, ℕ, List, [], ◌∷◌, ◌++◌, ◌+◌, suc, length, take, Option, Some, None, sym, ap, subst, refl, arith, ◌<◌}
+use Rattle.std.proofs.Common.{◌≡◌, ◌∙◌, ◌⊎◌, inl, inr, ◌==◌, ℕ, Bool, true, false, List, [], ◌∷◌, ◌++◌, ◌+◌, suc, zero, length, take, Option, Some, None, is_some, sym, ap, subst, refl, arith, ◌<◌, ◌≤◌, if◌then◌else◌}
 use Rattle.oi_base.specs.Counts.{Rose}
 use Rattle.oi_base.specs.Limits.{input_limit}
 use Rattle.oi_drive.proofs.Outputs.{behind-append}
 use Rattle.oi_drive.specs.Parts.{BrokeOff, IsFront}
 use Rattle.oi_drive.proofs.Requests.{broken_asks, whole_asks}
 use Rattle.oi_history.specs.declared.phase.End.TheVariants.{Stopped}
-use Rattle.oi_drive.specs.Endings.{Closes, ClosesBroken, ClosesPartly, FailedBy, HasCause, IsDrive, IsEndedBy, IsLeft, broken_status, cause_of, closed_by, closing_text, drive_world, first_world, status_of, stop_text}
+use Rattle.oi_drive.specs.Endings.{Closes, ClosesBroken, ClosesPartly, FailedBy, HasCause, IsDrive, IsEndedBy, IsLeft, broken_status, cause_of, closed_by, closing_text, drive_world, first_world, status_of, stop_text, terminated}
 use Rattle.oi_drive.specs.Inputs.{BreaksBy, Finishes, rest_text, rest_world}
+use Rattle.oi_drive.specs.Acts.{IsPart}
+use Rattle.oi_drive.specs.Deeds.{Deed, due_of_session, fails, hands_out, hands_out_by, nothing, outcome_lines}
 use Rattle.oi_drive.specs.Worlds.{World}
+use Rattle.oi_drive.specs.declared.answer.Answer.TheVariants.{Done, Spent}
+use Rattle.oi_history.specs.Phases.{is_ended}
+use Rattle.oi_history.specs.declared.event.Event.{Event}
+use Rattle.oi_history.specs.declared.event.Event.TheVariants.{Deliver}
+use Rattle.oi_history.specs.declared.fate.Delivered.{Delivered}
+use Rattle.oi_history.specs.declared.phase.End.{End}
+use Rattle.oi_solo.specs.Limits.{spent_by}
 use Rattle.oi_drive.specs.declared.runner.Broken.{Broken}
 use Rattle.oi_drive.specs.declared.runner.Broken.TheVariants.{Memory, Read, Write}
 use Rattle.oi_outside.specs.Streams.{behind}
-use Rattle.oi_session.specs.Sessions.{Session, run_of}
+use Rattle.oi_solo.specs.Sessions.{Session, entered_all, now_of, run_of}
 
 abbrev last_text : World → List ℕ
 last_text w = closing_text (cause_of w.stop) w.session ++ stop_text w.stop
@@ -25,7 +34,7 @@ drives bytes w session status held0 held1 held sink1 sink same wrote closes quie
       closes.text quiet memory ∙ (ap (λ (h : Option (List ℕ)). behind h (last_text w)) wrote
       ∙ (behind-append held0 (rest_text input_limit first_world bytes) (last_text w)
       ∙ ap (λ (z : World). behind held0 (rest_text input_limit first_world bytes ++ last_text z)) same));
-  status_is = closes.status_is quiet memory ∙ ap (λ (z : World). status_of z.stop) same;
+  status_is = closes.status_is quiet memory ∙ ap (λ (z : World). status_of z.stop z.refused) same;
 }
 
 pub closes_exact : (left0 : Option (List ℕ)) (w0 w : World) (session : Session) (status : ℕ) (held0 held1 held : Option (List ℕ)) (sink0 sink1 sink : ℕ) → w0 ≡ first_world
@@ -146,3 +155,34 @@ partly_left b left0 left w0 v session status held0 held1 held source0 source sin
   where
     off : BrokeOff b left0 left first_world v held0 held1
     off = subst (λ (z : World). BrokeOff b left0 left z v held0 held1) first broke
+
+-- what is due is handed out by one entry at most
+one_at_most : (b : Bool) (s : Session) (due : List Delivered) → length (hands_out_by b s due).entries ≤ 1
+one_at_most true s due = omega arith
+one_at_most false s due = spent_or (is_some (spent_by s (Deliver (length due) ∷ []))) s due
+  where
+    spent_or : (b : Bool) (s : Session) (due : List Delivered)
+        → length (let d : Deed = if b then fails Spent else record { entries = Deliver (length due) ∷ []; text = outcome_lines s.config.sid due; answer = Done } in d).entries ≤ 1
+    spent_or true s due = omega arith
+    spent_or false s due = omega arith
+
+at_most : (b : Bool) (s : Session) (due : List Delivered) → length (let d : Deed = if b then nothing else hands_out_by (is_ended (now_of s).phase) s due in d).entries ≤ 1
+at_most true s due = omega arith
+at_most false s due = one_at_most (is_ended (now_of s).phase) s due
+
+all_or_none : (es : List Event) (k : ℕ) → length es ≤ 1 → (take k es ≡ []) ⊎ (take k es ≡ es)
+all_or_none es zero h = inl refl
+all_or_none [] (suc k) h = inl refl
+all_or_none (e ∷ []) (suc k) h = inr (ap (λ (z : List Event). e ∷ z) (take_none k))
+  where
+    take_none : (k : ℕ) → (let none : List Event = [] in take k none) ≡ []
+    take_none zero = refl
+    take_none (suc k) = refl
+all_or_none (e ∷ f ∷ es) (suc k) h = absurd (omega (arith, h))
+
+pub handed_or_not : (cause : End) (old s new : Session) → s ≡ terminated cause old → IsPart (hands_out s).entries s new → IsEndedBy cause old new
+handed_or_not cause old s new is part = by (all_or_none (hands_out s).entries part.0 (at_most (length (due_of_session s) == 0) s (due_of_session s)))
+  where
+    by : (take part.0 (hands_out s).entries ≡ []) ⊎ (take part.0 (hands_out s).entries ≡ (hands_out s).entries) → IsEndedBy cause old new
+    by (inl none) = inl (part.1 ∙ (ap (entered_all s) none ∙ is))
+    by (inr all) = inr (part.1 ∙ (ap (entered_all s) all ∙ ap (λ (t : Session). entered_all t (hands_out t).entries) is))

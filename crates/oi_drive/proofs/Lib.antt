@@ -1,8 +1,10 @@
+pub mod Going
+pub mod Calls
+pub mod Sendings
 pub mod Answered
 pub mod Configs
 pub mod Outputs
 pub mod Parts
-pub mod Repeats
 pub mod Requests
 pub mod Readings
 pub mod Breaks

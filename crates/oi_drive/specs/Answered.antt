@@ -1,7 +1,7 @@
 -- How often the submissions of runs were answered.
 use Rattle.std.specs.Prelude.{◌≡◌, ◌≤◌, ◌<◌, ℕ, List, [], ◌∷◌, length}
 use Rattle.oi_laws.specs.Answers.{times}
-use Rattle.oi_session.specs.Sessions.{RunView, Session, now_of, run_of}
+use Rattle.oi_solo.specs.Sessions.{RunView, Session, now_of, run_of}
 
 -- no submission of a run was answered twice
 abbrev pub AreOnce : List RunView → Type 0

@@ -1,15 +1,15 @@
 -- What a run of `drive` comes to: why it ended, its status, its last text.
-use Rattle.std.specs.Prelude.{◌≡◌, ◌⊎◌, ℕ, true, ◌++◌, List, [], ◌∷◌, take, Option, Some, None, pos, if◌then◌else◌}
+use Rattle.std.specs.Prelude.{◌≡◌, ◌⊎◌, ℕ, Bool, false, true, ◌++◌, List, [], ◌∷◌, take, Option, Some, None, pos, if◌then◌else◌}
 use Rattle.oi_base.specs.Counts.{Rose}
 use Rattle.oi_drive.specs.declared.runner.Broken.{Broken}
 use Rattle.oi_drive.specs.declared.runner.Broken.TheVariants.{Memory, Read, Write}
 use Rattle.oi_drive.specs.Parts.{BrokeOff, IsFront}
 use Rattle.oi_drive.specs.Requests.{fed_requests, input_requests, line_request, requests_in}
-use Rattle.oi_drive.specs.Worlds.{World, delivered, feed, input_text, input_world, one_more, outcomes}
+use Rattle.oi_drive.specs.Deeds.{Deed, hands_out}
+use Rattle.oi_drive.specs.Worlds.{World, feed, input_text, input_world, one_more, unused}
 use Rattle.oi_drive.specs.declared.runner.Stop.{Stop}
-use Rattle.oi_drive.specs.declared.runner.Stop.TheVariants.{Asked, InputEnd, BadLine}
-use Rattle.oi_history.specs.Histories.{snapshot}
-use Rattle.oi_history.specs.Legality.{IsLegal}
+use Rattle.oi_drive.specs.declared.runner.Stop.TheVariants.{Asked, InputEnd, BadLine, Full}
+use Rattle.oi_history.specs.Permitted.{ArePermitted}
 use Rattle.oi_history.specs.Phases.{is_ended}
 use Rattle.oi_history.specs.declared.config.SessionConfig.{SessionConfig}
 use Rattle.oi_history.specs.declared.event.Event.TheVariants.{Terminate}
@@ -17,9 +17,9 @@ use Rattle.oi_history.specs.declared.phase.End.{End}
 use Rattle.oi_history.specs.declared.phase.End.TheVariants.{Asked as ByLine, InputEnd as ByInput, Stopped}
 use Rattle.oi_outside.specs.Streams.{behind}
 use Rattle.oi_script.specs.Printed.{fault_text}
-use Rattle.oi_session.specs.Sessions.{RunView, Session, entered, now_of, run_of}
+use Rattle.oi_solo.specs.Sessions.{RunView, Session, entered, entered_all, now_of, run_of}
 
--- the settings of the replayed session
+-- the settings of the replayed session, where no line gives others
 abbrev pub drive_config : SessionConfig
 drive_config = record {
   sid = 1;
@@ -39,7 +39,7 @@ drive_config = record {
 }
 
 abbrev pub first_world : World
-first_world = record { session = record { config = drive_config; history = [] }; part = []; line = 0; stop = None }
+first_world = record { session = unused drive_config; links = []; begun = false; refused = false; part = []; line = 0; stop = None }
 
 -- the end of the session; one that has ended stays as it is
 abbrev pub terminated : End → Session → Session
@@ -47,23 +47,27 @@ terminated cause s = if is_ended (now_of s).phase then s else entered s (Termina
 
 -- all that is due handed out behind it
 abbrev pub closed_by : End → Session → Session
-closed_by cause s = delivered (terminated cause s)
+closed_by cause s = entered_all (terminated cause s) (hands_out (terminated cause s)).entries
 
 abbrev pub closing_text : End → Session → List ℕ
-closing_text cause s = outcomes (terminated cause s)
+closing_text cause s = (hands_out (terminated cause s)).text
 
 abbrev pub cause_of : Option Stop → End
 cause_of (Some Asked) = ByLine
 cause_of (Some InputEnd) = ByInput
 cause_of (Some (BadLine line)) = Stopped 7
+cause_of (Some (Full line)) = Stopped 34
 cause_of None = ByInput
 
-abbrev pub status_of : Option Stop → ℕ
-status_of (Some (BadLine line)) = 7
-status_of o = 0
+-- a status that stopped the run comes before that of a refused line
+abbrev pub status_of : Option Stop → Bool → ℕ
+status_of (Some (BadLine line)) refused = 7
+status_of (Some (Full line)) refused = 34
+status_of o refused = if refused then 35 else 0
 
 abbrev pub stop_text : Option Stop → List ℕ
 stop_text (Some (BadLine line)) = fault_text 7 line
+stop_text (Some (Full line)) = fault_text 34 line
 stop_text o = []
 
 -- the status of a run that broke
@@ -87,7 +91,7 @@ IsEndedBy cause old now = (now ≡ terminated cause old) ⊎ (now ≡ closed_by 
 pub record Closes (w0 : World) (session : Session) (status : ℕ) (held0 held : Option (List ℕ)) (sink0 sink : ℕ) : Type 0 where
   pub session_is : (status ≡ 3 → ⊥) → session ≡ closed_by (cause_of w0.stop) w0.session
   pub text : (Rose sink0 sink → ⊥) → (status ≡ 3 → ⊥) → held ≡ behind held0 (closing_text (cause_of w0.stop) w0.session ++ stop_text w0.stop)
-  pub status_is : (Rose sink0 sink → ⊥) → (status ≡ 3 → ⊥) → status ≡ status_of w0.stop
+  pub status_is : (Rose sink0 sink → ⊥) → (status ≡ 3 → ⊥) → status ≡ status_of w0.stop w0.refused
   pub read : status ≡ 30 → ⊥
   pub write : status ≡ 31 → Rose sink0 sink
   pub clean : status ≡ 0 → sink ≡ sink0
@@ -120,14 +124,14 @@ drive_text bytes =
     input_text first_world bytes ++ (closing_text (cause_of (drive_world bytes).stop) (drive_world bytes).session ++ stop_text (drive_world bytes).stop)
 
 abbrev pub drive_status : List ℕ → ℕ
-drive_status bytes = status_of (drive_world bytes).stop
+drive_status bytes = status_of (drive_world bytes).stop (drive_world bytes).refused
 
 -- a run of a legal history that ended
 pub record IsEndedRun (r : RunView) : Type 0 where
   pub session : Session
   pub is : r ≡ run_of session
-  pub legal : IsLegal session.config session.history
-  pub ended : is_ended (snapshot session.config session.history).phase ≡ true
+  pub legal : ArePermitted session.config session.history
+  pub ended : is_ended (now_of session).phase ≡ true
 
 abbrev pub AreEnded : List RunView → Type 0
 AreEnded [] = Unit {0}

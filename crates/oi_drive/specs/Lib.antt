@@ -1,10 +1,11 @@
 pub mod Answered
 pub mod Acts
+pub mod Deeds
 pub mod Endings
 pub mod Inputs
 pub mod Parts
-pub mod Pdus
 pub mod Requests
 pub mod Runs
+pub mod Steps
 pub mod Worlds
 pub mod Writes

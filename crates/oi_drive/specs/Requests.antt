@@ -1,7 +1,9 @@
 -- Submissions stand one for one for lines.
 use Rattle.std.specs.Prelude.{ℕ, ◌==◌, List, [], ◌∷◌, ◌++◌, Option, Some, None, is_some, length, nat_le, take, if◌then◌else◌}
 use Rattle.oi_base.specs.Limits.{input_limit}
-use Rattle.oi_drive.specs.Worlds.{World, feed, feed_byte, fits}
+use Rattle.oi_drive.specs.Worlds.{World, deed_of, feed, feed_byte}
+use Rattle.oi_drive.specs.declared.answer.Answer.{Answer}
+use Rattle.oi_drive.specs.declared.answer.Answer.TheVariants.{Done}
 use Rattle.oi_history.specs.declared.event.Event.{Event}
 use Rattle.oi_history.specs.declared.event.Event.TheVariants.{Submit}
 use Rattle.oi_history.specs.declared.event.Numbered.{Numbered}
@@ -24,10 +26,14 @@ abbrev pub asked_by : DriveLine → List Request
 asked_by (SubmitLine request) = request ∷ []
 asked_by l = []
 
--- of a line that can stand
+-- of a line that was done
+abbrev pub if_done : Answer → List Request → List Request
+if_done Done requests = requests
+if_done a requests = []
+
 abbrev pub request_by : World → Option DriveLine → List Request
 request_by w None = []
-request_by w (Some l) = if fits l w.session then asked_by l else []
+request_by w (Some l) = if_done (deed_of w l).answer (asked_by l)
 
 abbrev pub line_request : World → List Request
 line_request w = request_by w (drive_line w.part)

@@ -1,29 +1,44 @@
 -- The replayed session: what its input bytes make of it, and the text that they give. Bytes are taken one by one; at a
 -- line feed the line is done. After a stop nothing counts.
-use Rattle.std.specs.Prelude.{ℕ, Bool, true, not, ◌+◌, ◌-◌, ◌^◌, ◌==◌, ◌&&◌, ◌++◌, List, [], ◌∷◌, Option, Some, None, is_some, length, min, take, nat_le, nat_lt, if◌then◌else◌, suc, zero}
-use Rattle.std.specs.List.{flat_map}
-use Rattle.std.specs.Option.{option_map_or}
-use Rattle.oi_base.specs.Limits.{input_limit, line_limit, most_pending}
-use Rattle.oi_drive.specs.Pdus.{whole_pdu}
-use Rattle.oi_drive.specs.declared.runner.LineKind.{LineKind}
-use Rattle.oi_drive.specs.declared.runner.LineKind.TheVariants.{Receiving, Ending, Other}
+use Rattle.std.specs.Prelude.{ℕ, ℤ, Bool, true, false, ◌+◌, ◌-◌, ◌^◌, ◌==◌, ◌||◌, ◌++◌, List, [], ◌∷◌, Option, Some, None, is_some, length, min, set, slice_get, take, nat_le, nat_lt, if◌then◌else◌}
+use Rattle.oi_base.specs.Limits.{input_limit, line_limit, most_received}
+use Rattle.oi_drive.specs.Deeds.{Deed, aborts, cuts, fails, hands_out, joined, leaves, logs_in, nothing, receives, resets, says, sends, shows_window, submits, ticks}
+use Rattle.oi_drive.specs.declared.answer.Answer.{Answer}
+use Rattle.oi_drive.specs.declared.answer.Answer.TheVariants.{Done, Refused, Outside, Spent}
 use Rattle.oi_drive.specs.declared.runner.Stop.{Stop}
-use Rattle.oi_drive.specs.declared.runner.Stop.TheVariants.{Asked, InputEnd, BadLine}
-use Rattle.oi_history.specs.Phases.{has_connection, is_ended, is_logged_in}
-use Rattle.oi_history.specs.Tasks.{due_in}
-use Rattle.oi_history.specs.declared.event.Event.TheVariants.{Submit, PduIn, Login}
-use Rattle.oi_history.specs.declared.fate.Delivered.{Delivered}
-use Rattle.oi_history.specs.declared.phase.Phase.{Phase}
-use Rattle.oi_history.specs.declared.phase.Phase.TheVariants.{LoggedIn}
+use Rattle.oi_drive.specs.declared.runner.Stop.TheVariants.{Asked, InputEnd, BadLine, Full}
+use Rattle.oi_history.specs.declared.config.SessionConfig.{SessionConfig}
+use Rattle.oi_history.specs.declared.event.Event.{Event}
+use Rattle.oi_history.specs.declared.event.Event.TheVariants.{ResetLun, ResetTarget}
+use Rattle.oi_history.specs.declared.rule.Rule.{Rule}
+use Rattle.oi_history.specs.declared.rule.Rule.TheVariants.{Header, TooLong as TooLongSegment}
 use Rattle.oi_script.specs.Lines.{drive_line}
-use Rattle.oi_script.specs.Printed.{done_line, idle_text, login_text, tx_text}
+use Rattle.oi_script.specs.Notices.{refused_text}
+use Rattle.oi_script.specs.Applied.{applied}
+use Rattle.oi_script.specs.Settings.{setting_of}
+use Rattle.oi_script.specs.declared.settings.Setting.{Setting}
 use Rattle.oi_script.specs.declared.line.DriveLine.{DriveLine}
-use Rattle.oi_script.specs.declared.line.DriveLine.TheVariants.{Login as LoginLine, Submit as SubmitLine, Send, Recv, End}
-use Rattle.oi_session.specs.Calls.{handed_out}
-use Rattle.oi_session.specs.Sessions.{Session, entered, next_to_send, now_of, pending_of, reaped, sent_bytes}
+use Rattle.oi_script.specs.declared.line.DriveLine.TheVariants.{Skip, Set, Login, Submit, Send, Recv, Cut, Tick, Abort, ResetLun as ResetLunLine, ResetTarget as ResetTargetLine, Leave, Window, End}
+use Rattle.oi_solo.specs.Sessions.{Session, entered_all}
+use Rattle.oi_stream.specs.Feeding.{State}
+use Rattle.oi_stream.specs.Framing.{Stop as Cease, Short, BadHeader, TooLong}
+use Rattle.oi_stream.specs.Bytewise.{fed, unfed}
+
+-- the splitter of a link; none once it has ended
+abbrev pub Link : Type 0
+Link = Option State
+
+abbrev pub link_of : State → Link
+link_of s = if s.ended then None else Some s
 
 pub record World : Type 0 where
   pub session : Session
+  -- one for each login, that of the first one first
+  pub links : List Link
+  -- a line stood that is no setting
+  pub begun : Bool
+  -- a line was refused
+  pub refused : Bool
   -- the bytes of the line that has not ended yet
   pub part : List ℕ
   -- lines that are done
@@ -34,104 +49,154 @@ pub record World : Type 0 where
 abbrev pub one_more : ℕ → ℕ
 one_more n = min (n + 1) (2 ^ 64 - 1)
 
--- up to n transmissions, until nothing is left to send
-abbrev pub sends : ℕ → ℕ → Session → Session
-sends zero g s = s
-sends (suc n) g s = option_map_or (λ e. sends n g (entered (reaped s) e)) (next_to_send g (now_of (reaped s))) (reaped s)
+-- settings stand before all other lines
+abbrev pub begins : DriveLine → Bool
+begins Skip = false
+begins (Set name value) = false
+begins l = true
 
-abbrev pub sends_text : ℕ → ℕ → Session → List ℕ
-sends_text zero g s = []
-sends_text (suc n) g s =
-    option_map_or (λ e. tx_text g (sent_bytes (now_of (reaped s)) e) ++ sends_text n g (entered (reaped s) e)) (next_to_send g (now_of (reaped s))) idle_text
+-- a session without entries
+abbrev pub unused : SessionConfig → Session
+unused C = record { config = C; history = [] }
 
--- without a connection nothing is sent, and nothing is printed
-abbrev pub sends_in : Phase → ℕ → Session → Session
-sends_in (LoggedIn g) n s = sends n g s
-sends_in p n s = s
+-- the settings with this one at this value
+abbrev pub set_to : Option Setting → ℤ → SessionConfig → SessionConfig
+set_to (Some setting) value C = applied setting value C
+set_to None value C = C
 
-abbrev pub sends_in_text : Phase → ℕ → Session → List ℕ
-sends_in_text (LoggedIn g) n s = sends_text n g s
-sends_in_text p n s = []
+-- the session whose entries a line adds to
+abbrev pub base : World → DriveLine → Session
+base w (Set name value) = if w.begun then w.session else unused (set_to (setting_of name) value w.session.config)
+base w l = w.session
 
--- the line can stand here: one login; fewer than the most submissions that are not done; bytes of the live connection
-abbrev pub fits : DriveLine → Session → Bool
-fits (LoginLine cmdsn max exp_stat params) s = not (has_connection (now_of s).phase) && not (is_ended (now_of s).phase)
-fits (SubmitLine request) s = not (is_ended (now_of s).phase) && nat_lt (pending_of (now_of s)) most_pending
-fits (Send count) s = true
-fits (Recv generation bytes) s = is_logged_in (now_of s).phase generation && is_some (whole_pdu bytes)
-fits End s = true
+-- the link with this generation, of which there is one at least for each login
+abbrev pub link_at : List Link → ℕ → Option Link
+link_at links generation = slice_get links (generation - 1)
 
--- the entries of a line
-abbrev pub acted : DriveLine → Session → Session
-acted (LoginLine cmdsn max exp_stat params) s = entered s (Login ((now_of s).generation + 1) params cmdsn max exp_stat)
-acted (SubmitLine request) s = entered s (Submit (length (now_of s).tasks) request)
-acted (Send count) s = sends_in (now_of s).phase count s
-acted (Recv generation bytes) s = option_map_or (λ pdu. entered s (PduIn generation pdu)) (whole_pdu bytes) s
-acted End s = s
+-- the rule by which a stream that can't be followed further loses its connection
+abbrev pub fault_of : Cease → Option Rule
+fault_of (BadHeader byte) = Some Header
+fault_of (TooLong size) = Some TooLongSegment
+fault_of Short = None
 
--- its own text
-abbrev pub acted_text : DriveLine → Session → List ℕ
-acted_text (LoginLine cmdsn max exp_stat params) s = login_text ((now_of s).generation + 1)
-acted_text (SubmitLine request) s = []
-acted_text (Send count) s = sends_in_text (now_of s).phase count s
-acted_text (Recv generation bytes) s = []
-acted_text End s = []
+-- a piece for a link: none where there is no such link, and one that has ended is not fed
+abbrev pub receives_on : Option Link → ℕ → List ℕ → Session → Deed
+receives_on None generation bytes s = fails Outside
+receives_on (Some None) generation bytes s = nothing
+receives_on (Some (Some state)) generation bytes s = receives generation (fed state bytes).pdus (fault_of (fed state bytes).stop) s
 
-abbrev pub kind_of : DriveLine → LineKind
-kind_of (LoginLine cmdsn max exp_stat params) = Other
-kind_of (SubmitLine request) = Other
-kind_of (Send count) = Other
-kind_of (Recv generation bytes) = Receiving
-kind_of End = Ending
+-- a line that asks something of the session alone
+abbrev pub plain_deed : DriveLine → Session → Deed
+plain_deed (Submit request) s = submits request s
+plain_deed (Send count) s = sends count s
+plain_deed Cut s = cuts s
+plain_deed (Tick now) s = ticks now s
+plain_deed (Abort id) s = aborts id s
+plain_deed (ResetLunLine lun) s = resets (ResetLun lun) s
+plain_deed ResetTargetLine s = resets ResetTarget s
+plain_deed Leave s = leaves s
+plain_deed Window s = shows_window s
+plain_deed l s = nothing
 
--- where the input stops; a PDU that breaks the connection is not taken so far, and stops it like a bad line
-abbrev pub stop_by : LineKind → ℕ → Bool → Option Stop
-stop_by Receiving line broken = if broken then Some (BadLine line) else None
-stop_by Ending line broken = Some Asked
-stop_by Other line broken = None
+abbrev pub deed_of : World → DriveLine → Deed
+deed_of w (Set name value) = if w.begun then fails Outside else nothing
+deed_of w (Login cmdsn max exp_stat params) = logs_in (record { params = params; tsih = 0; cmdsn = cmdsn; max = max; exp_stat = exp_stat }) w.session
+deed_of w (Recv generation bytes) = receives_on (link_at w.links generation) generation bytes w.session
+deed_of w l = plain_deed l w.session
 
-abbrev pub stop_after : DriveLine → ℕ → Session → Option Stop
-stop_after l line s = stop_by (kind_of l) line (is_some (now_of s).broken)
+abbrev pub goes_on : Cease → State → Link
+goes_on Short state = Some state
+goes_on c state = None
 
-abbrev pub due_of_session : Session → List Delivered
-due_of_session s = due_in (now_of s).tasks
+abbrev pub refed : Link → List ℕ → Link
+refed None bytes = None
+refed (Some state) bytes = goes_on (fed state bytes).stop (fed state bytes).state
 
--- all that is due is handed out
-abbrev pub delivered : Session → Session
-delivered s = handed_out s (length (due_of_session s))
+abbrev pub refed_at : Option Link → ℕ → List ℕ → List Link → List Link
+refed_at None generation bytes links = links
+refed_at (Some link) generation bytes links = set links (generation - 1) (refed link bytes)
 
-abbrev pub outcome_lines : ℕ → List Delivered → List ℕ
-outcome_lines sid ds = flat_map (λ d. done_line sid d.id d.outcome) ds
+abbrev pub logged : Answer → List Link → List Link
+logged Done links = links ++ Some (unfed most_received) ∷ []
+logged a links = links
 
-abbrev pub outcomes : Session → List ℕ
-outcomes s = outcome_lines s.config.sid (due_of_session s)
+-- the links behind a line
+abbrev pub linked : DriveLine → Answer → List Link → List Link
+linked (Login cmdsn max exp_stat params) a links = logged a links
+linked (Recv generation bytes) a links = refed_at (link_at links generation) generation bytes links
+linked l a links = links
+
+abbrev pub is_refusal : Answer → Bool
+is_refusal (Refused word) = true
+is_refusal a = false
+
+-- what follows a line's own part: a refusal is told, and what is due is handed out
+abbrev pub settles : Answer → ℕ → Session → Deed
+settles Done line s = hands_out s
+settles (Refused word) line s = joined (says (refused_text line word)) (hands_out s)
+settles a line s = fails a
+
+-- all that a line does
+abbrev pub line_deed : World → DriveLine → Deed
+line_deed w l = joined (deed_of w l) (settles (deed_of w l).answer (one_more w.line) (entered_all (base w l) (deed_of w l).entries))
+
+abbrev pub is_end : DriveLine → Bool
+is_end End = true
+is_end l = false
+
+-- where the input stops
+abbrev pub stop_by : Answer → ℕ → Bool → Option Stop
+stop_by Outside line ends = Some (BadLine line)
+stop_by Spent line ends = Some (Full line)
+stop_by a line ends = if ends then Some Asked else None
 
 -- a line outside the language
 abbrev pub bad : World → World
-bad w = record { session = w.session; part = []; line = one_more w.line; stop = Some (BadLine (one_more w.line)) }
+bad w = record w { part = []; line = one_more w.line; stop = Some (BadLine (one_more w.line)) }
 
-abbrev pub done : World → DriveLine → Session → World
-done w l s = record { session = delivered s; part = []; line = one_more w.line; stop = stop_after l (one_more w.line) s }
+-- the session and the links behind a line's own part
+abbrev pub acted : World → DriveLine → World
+acted w l = record w { session = entered_all (base w l) (deed_of w l).entries; links = linked l (deed_of w l).answer w.links }
 
 abbrev pub line_by : World → Option DriveLine → World
 line_by w None = bad w
-line_by w (Some l) = if fits l w.session then done w l (acted l w.session) else bad w
+line_by w (Some l) = record {
+  session = entered_all (base w l) (line_deed w l).entries;
+  links = linked l (deed_of w l).answer w.links;
+  begun = w.begun || begins l;
+  refused = w.refused || is_refusal (deed_of w l).answer;
+  part = [];
+  line = one_more w.line;
+  stop = stop_by (line_deed w l).answer (one_more w.line) (is_end l);
+}
 
-abbrev pub line_by_text : World → Option DriveLine → List ℕ
-line_by_text w None = []
-line_by_text w (Some l) = if fits l w.session then acted_text l w.session ++ outcomes (acted l w.session) else []
+abbrev pub text_by : World → Option DriveLine → List ℕ
+text_by w None = []
+text_by w (Some l) = (line_deed w l).text
 
--- the line that has ended
+abbrev pub base_by : World → Option DriveLine → Session
+base_by w None = w.session
+base_by w (Some l) = base w l
+
+abbrev pub entries_by : World → Option DriveLine → List Event
+entries_by w None = []
+entries_by w (Some l) = (line_deed w l).entries
+
+-- the line that has ended: what it makes of all, its text, and its entries behind a session
 abbrev pub line_step : World → World
 line_step w = line_by w (drive_line w.part)
 
 abbrev pub line_text : World → List ℕ
-line_text w = line_by_text w (drive_line w.part)
+line_text w = text_by w (drive_line w.part)
+
+abbrev pub line_base : World → Session
+line_base w = base_by w (drive_line w.part)
+
+abbrev pub line_entries : World → List Event
+line_entries w = entries_by w (drive_line w.part)
 
 abbrev pub byte_step : World → ℕ → World
-byte_step w b =
-    if b == 10 then line_step w
-    else (if nat_lt (length w.part) line_limit then record { session = w.session; part = w.part ++ b ∷ []; line = w.line; stop = w.stop } else bad w)
+byte_step w b = if b == 10 then line_step w else (if nat_lt (length w.part) line_limit then record w { part = w.part ++ b ∷ [] } else bad w)
 
 abbrev pub feed_byte : World → ℕ → World
 feed_byte w b = if is_some w.stop then w else byte_step w b
@@ -155,7 +220,7 @@ abbrev pub last_text : World → List ℕ
 last_text w = if length w.part == 0 then [] else line_text w
 
 abbrev pub stopped_at_end : World → World
-stopped_at_end w = if is_some w.stop then w else record { session = w.session; part = w.part; line = w.line; stop = Some InputEnd }
+stopped_at_end w = if is_some w.stop then w else record w { stop = Some InputEnd }
 
 abbrev pub input_end : World → World
 input_end w = if is_some w.stop then w else stopped_at_end (last_line w)

@@ -1,148 +1,125 @@
-ghost use Rattle.std.specs.Prelude.{◌≡◌, ◌≤◌, ◌⊎◌, ◌++◌, IfOk, OnErr, OnOk, Some, true};
-ghost use Rattle.oi_drive.specs.Acts.{Acts, SendsOne};
-ghost use Rattle.oi_history.specs.Phases.{is_logged_in};
+ghost use Rattle.std.specs.Prelude.{◌≡◌, ◌≤◌, ◌++◌, ℕ, List, OnErr, OnOk, Some};
+ghost use Rattle.oi_drive.specs.Acts.{Does};
 ghost use Rattle.oi_drive.specs.Parts.{IsBetween};
 ghost use Rattle.oi_drive.specs.Runs.{seen};
-ghost use Rattle.oi_drive.specs.Worlds.{acted, bad, kind_of, stop_by, acted_text, delivered, due_of_session, line_by, line_by_text, line_step, line_text, outcome_lines, outcomes, sends, sends_text};
-ghost use Rattle.oi_script.specs.Lines.{IsValidLine};
-ghost use Rattle.oi_script.specs.declared.line.DriveLine.TheVariants.{Login as LoginLine, Recv, Send, Submit};
-ghost use Rattle.oi_scsi.specs.Requests.{IsValid};
-ghost use Rattle.oi_session.specs.Sessions.{entered, next_to_send, now_of, reaped, sent_bytes};
+ghost use Rattle.oi_drive.specs.Steps.{Acts};
+ghost use Rattle.oi_drive.specs.Worlds.{bad, base, begins, is_end, is_refusal, line_base, line_by, line_deed, line_entries, line_step, line_text, plain_deed, settles, stop_by, text_by};
+ghost use Rattle.oi_script.specs.Lines.{IsSetting, IsValidLine};
+ghost use Rattle.oi_script.specs.Settings.{setting_of};
+ghost use Rattle.oi_script.specs.declared.line.DriveLine.TheVariants.{Login as LoginLine, Recv, Set};
 
-use crate::pdus::whole_pdu;
-use crate::runner::{LineKind, Runner, Stop};
+use crate::answer::Answer;
+use crate::deeds::{
+    abort, cut, leave, login, put, receive, reset_lun, reset_target, send, show_window, submit,
+    tick,
+};
+use crate::handing::hand_out;
+use crate::runner::{Runner, Stop};
 use oi_base::{LoginDone, NoMemory};
-use oi_history::{Delivered, Phase};
-use oi_script::{DriveLine, LineFault, idle_line, line_of, login_line, read_drive, tx_line};
-use oi_scsi::Request;
-use oi_session::{LoginRefused, Received, Solo, SubmitRefused, Transmit};
+use oi_history::Rule;
+use oi_script::{DriveLine, LineFault, Setting, read_drive, refused_line};
+use oi_solo::Solo;
+use oi_stream::{Splitter, StreamFault};
 use std::alloc::Global;
 
-fn put(out: &mut Vec<u8>, text: &[u8]) -> Result<(), NoMemory>
-    ensures { OnOk result (out.new.items ≡ out.old.items ++ text.now) }
-{
-    out.extend_from_slice(text)?;
-    Ok(())
-}
+const MOST_RECEIVED: u32 = 262_144;
 
-// A login line. Answers whether it can stand here.
-fn login(
+// A line that asks something of the session alone.
+fn plain(
     solo: &mut Solo,
     alloc: Global,
-    done: LoginDone,
+    line: DriveLine,
     out: &mut Vec<u8>,
-) -> Result<bool, NoMemory>
-    requires { 1 ≤ done.params.max_send }
-    ensures { Acts (LoginLine done.cmdsn done.max done.exp_stat done.params) solo.old out.old.items result solo.new out.new.items }
+) -> Result<Answer, NoMemory>
+    requires { IsValidLine line }
+    ensures { Does (plain_deed line solo.old) solo.old out.old.items result solo.new out.new.items }
 {
-    match solo.logged_in(done) {
-        Ok(generation) => {
-            put(out, login_line(alloc, generation)?.as_slice())?;
-            Ok(true)
+    match line {
+        DriveLine::Submit { request } => submit(solo, request),
+        DriveLine::Send { count } => send(solo, alloc, count, out),
+        DriveLine::Cut => cut(solo, alloc, out),
+        DriveLine::Tick { now } => tick(solo, alloc, now, out),
+        DriveLine::Abort { id } => abort(solo, id),
+        DriveLine::ResetLun { lun } => reset_lun(solo, lun),
+        DriveLine::ResetTarget => reset_target(solo),
+        DriveLine::Leave => leave(solo),
+        DriveLine::Window => show_window(solo, alloc, out),
+        _ => Ok(Answer::Done),
+    }
+}
+
+// A setting, before any other line.
+fn set(run: &mut Runner, name: &[u8], value: i64) -> Result<Answer, NoMemory>
+    requires { IsSetting (setting_of name.now) value }
+    ensures { (text : List ℕ) → Acts (seen run.old) (Set name.now value) text result (seen run.new) text }
+{
+    if run.begun {
+        return Ok(Answer::Outside);
+    }
+    let Some(setting) = Setting::named(name) else {
+        unreachable!();
+    };
+    let config = setting.apply(value, run.solo.config());
+    let Ok(solo) = Solo::new(run.alloc, config) else {
+        return Err(NoMemory);
+    };
+    run.solo = solo;
+    Ok(Answer::Done)
+}
+
+// A login, with a splitter for its stream.
+fn log_in(run: &mut Runner, done: LoginDone, out: &mut Vec<u8>) -> Result<Answer, NoMemory>
+    requires tsih { done.tsih ≡ 0 }
+    requires some { 1 ≤ done.params.max_send }
+    ensures { Acts (seen run.old) (LoginLine done.cmdsn done.max done.exp_stat done.params) out.old.items result (seen run.new) out.new.items }
+{
+    let link = Splitter::new(run.alloc, MOST_RECEIVED);
+    if run.links.reserve(1).is_err() {
+        return Err(NoMemory);
+    }
+    match login(&mut run.solo, run.alloc, done, out) {
+        Ok(Answer::Done) => {
+            run.links.push_reserved(link);
+            Ok(Answer::Done)
         }
-        Err(LoginRefused::Ended { .. }) | Err(LoginRefused::LoggedIn { .. }) => Ok(false),
+        Ok(answer) => Ok(answer),
         Err(_) => Err(NoMemory),
     }
 }
 
-fn submit(solo: &mut Solo, request: Request, out: &mut Vec<u8>) -> Result<bool, NoMemory>
-    requires { IsValid request.kind }
-    ensures { Acts (Submit request) solo.old out.old.items result solo.new out.new.items }
-{
-    match solo.submit(request) {
-        Ok(_) => Ok(true),
-        Err(SubmitRefused::Ended { .. }) | Err(SubmitRefused::Full { .. }) => Ok(false),
-        Err(_) => Err(NoMemory),
-    }
-}
-
+// Bytes for the link with this generation. One that has ended is not fed.
 fn recv(
-    solo: &mut Solo,
-    alloc: Global,
+    run: &mut Runner,
     generation: u64,
     bytes: &[u8],
     out: &mut Vec<u8>,
-) -> Result<bool, NoMemory>
-    ensures { Acts (Recv generation bytes.now) solo.old out.old.items result solo.new out.new.items }
+) -> Result<Answer, NoMemory>
+    requires { 1 ≤ generation }
+    ensures { Acts (seen run.old) (Recv generation bytes.now) out.old.items result (seen run.new) out.new.items }
 {
-    match solo.phase() {
-        Phase::LoggedIn { generation: live } if live == generation => {}
-        _ => return Ok(false),
+    let at = (generation - 1) as usize;
+    if at >= run.links.len() {
+        return Ok(Answer::Outside);
     }
-    let Some(pdu) = whole_pdu(alloc, bytes)? else {
-        return Ok(false);
+    let mut pdus = Vec::new(run.alloc);
+    let link = &mut run.links[at];
+    let fault = match link.feed(bytes, &mut pdus) {
+        Ok(()) => None,
+        Err(StreamFault::BadHeader { .. }) => Some(Rule::Header),
+        Err(StreamFault::TooLong { .. }) => Some(Rule::TooLong),
+        Err(StreamFault::Ended { .. }) => return Ok(Answer::Done),
+        Err(StreamFault::Memory) => return Err(NoMemory),
     };
-    match solo.receive(generation, pdu) {
-        Ok(_) => Ok(true),
-        Err(_) => Err(NoMemory),
-    }
+    receive(&mut run.solo, run.alloc, generation, pdus, fault, out)
 }
 
-// One transmission. Answers whether a PDU was sent.
-fn send_once(
-    solo: &mut Solo,
-    alloc: Global,
-    generation: u64,
-    out: &mut Vec<u8>,
-) -> Result<bool, NoMemory>
-    requires { is_logged_in (now_of solo.old).phase generation ≡ true }
-    ensures { SendsOne solo.old generation out.old.items result solo.new out.new.items }
-{
-    let mut bytes = Vec::new(alloc);
-    match solo.transmit_next(generation, &mut bytes) {
-        Ok(Transmit::Sent(_)) => {
-            put(out, tx_line(alloc, generation, &bytes)?.as_slice())?;
-            Ok(true)
-        }
-        Ok(Transmit::Idle) => {
-            put(out, idle_line(alloc)?.as_slice())?;
-            Ok(false)
-        }
-        _ => Err(NoMemory),
-    }
-}
-
-// Up to so many transmissions, until nothing is left to send.
-fn send(
-    solo: &mut Solo,
-    alloc: Global,
-    generation: u64,
-    count: u32,
-    out: &mut Vec<u8>,
-) -> Result<(), NoMemory>
-    requires { is_logged_in (now_of solo.old).phase generation ≡ true }
-    ensures session { OnOk result (solo.new ≡ sends count generation solo.old) }
-    ensures text { OnOk result (out.new.items ≡ out.old.items ++ sends_text count generation solo.old) }
-    ensures partly { OnErr result (IsBetween solo.old (sends count generation solo.old) solo.new) }
-{
-    for _i in 0..count {
-        if !send_once(solo, alloc, generation, out)? {
-            return Ok(());
-        }
-    }
-    Ok(())
-}
-
-fn send_line(
-    solo: &mut Solo,
-    alloc: Global,
-    count: u32,
-    out: &mut Vec<u8>,
-) -> Result<bool, NoMemory>
-    ensures { Acts (Send count) solo.old out.old.items result solo.new out.new.items }
-{
-    if let Phase::LoggedIn { generation } = solo.phase() {
-        send(solo, alloc, generation, count, out)?;
-    }
-    Ok(true)
-}
-
-/// The entries and the text of a line. Answers whether the line can stand here.
-fn act(solo: &mut Solo, alloc: Global, line: DriveLine, out: &mut Vec<u8>) -> Result<bool, NoMemory>
+/// The entries and the text of a line's own part.
+fn act(run: &mut Runner, line: DriveLine, out: &mut Vec<u8>) -> Result<Answer, NoMemory>
     requires { IsValidLine line }
-    ensures { Acts line solo.old out.old.items result solo.new out.new.items }
+    ensures { Acts (seen run.old) line out.old.items result (seen run.new) out.new.items }
 {
     match line {
+        DriveLine::Set { name, value } => set(run, name.as_slice(), value),
         DriveLine::Login {
             cmdsn,
             max,
@@ -156,77 +133,47 @@ fn act(solo: &mut Solo, alloc: Global, line: DriveLine, out: &mut Vec<u8>) -> Re
                 max,
                 exp_stat,
             };
-            login(solo, alloc, done, out)
+            log_in(run, done, out)
         }
-        DriveLine::Submit { request } => submit(solo, request, out),
-        DriveLine::Send { count } => send_line(solo, alloc, count, out),
-        DriveLine::Recv { generation, bytes } => recv(
-            solo,
-            alloc,
-            generation,
-            bytes.as_slice(),
-            out,
-        ),
-        DriveLine::End => Ok(true),
+        DriveLine::Recv { generation, bytes } => recv(run, generation, bytes.as_slice(), out),
+        line => plain(&mut run.solo, run.alloc, line, out),
     }
 }
 
-fn put_outcomes(
-    alloc: Global,
-    sid: u32,
-    due: &[Delivered],
-    out: &mut Vec<u8>,
-) -> Result<(), NoMemory>
-    ensures { OnOk result (out.new.items ≡ out.old.items ++ outcome_lines sid due.now) }
-{
-    for d in due {
-        put(out, line_of(alloc, sid, d.id, &d.outcome)?.as_slice())?;
-    }
-    Ok(())
-}
-
-// All that is due.
-fn deliver(solo: &mut Solo, alloc: Global) -> Result<Vec<Delivered>, NoMemory>
-    ensures phase { (now_of solo.new).phase ≡ (now_of solo.old).phase }
-    ensures session { OnOk result (solo.new ≡ delivered solo.old) }
-    ensures due { IfOk result (λ v. v.items ≡ due_of_session solo.old) }
-    ensures same { OnErr result (solo.new ≡ solo.old) }
-{
-    let mut due = Vec::new(alloc);
-    match solo.deliver(&mut due) {
-        Ok(_) => Ok(due),
-        Err(_) => Err(NoMemory),
-    }
-}
-
-/// Hands out all that is due, and adds its lines.
-pub fn hand_out(solo: &mut Solo, alloc: Global, out: &mut Vec<u8>) -> Result<(), NoMemory>
-    ensures phase { (now_of solo.new).phase ≡ (now_of solo.old).phase }
-    ensures session { OnOk result (solo.new ≡ delivered solo.old) }
-    ensures text { OnOk result (out.new.items ≡ out.old.items ++ outcomes solo.old) }
-    ensures partly { OnErr result ((solo.new ≡ solo.old) ⊎ (solo.new ≡ delivered solo.old)) }
-{
-    let sid = solo.sid();
-    let due = deliver(solo, alloc)?;
-    put_outcomes(alloc, sid, &due, out)
-}
-
-fn kind_of(line: &DriveLine) -> LineKind
-    ensures { result ≡ kind_of line.now }
+fn is_end(line: &DriveLine) -> bool
+    ensures { result ≡ is_end line.now }
 {
     match line {
-        DriveLine::Recv { .. } => LineKind::Receiving,
-        DriveLine::End => LineKind::Ending,
-        _ => LineKind::Other,
+        DriveLine::End => true,
+        _ => false,
     }
 }
 
-fn stop_by(kind: LineKind, line: u64, broken: bool) -> Option<Stop>
-    ensures { result ≡ stop_by kind line broken }
+fn begins(line: &DriveLine) -> bool
+    ensures { result ≡ begins line.now }
 {
-    match kind {
-        LineKind::Receiving if broken => Some(Stop::BadLine { line }),
-        LineKind::Ending => Some(Stop::Asked),
+    match line {
+        DriveLine::Skip | DriveLine::Set { .. } => false,
+        _ => true,
+    }
+}
+
+fn is_refusal(answer: Answer) -> bool
+    ensures { result ≡ is_refusal answer }
+{
+    match answer {
+        Answer::Refused(_) => true,
+        _ => false,
+    }
+}
+
+fn stop_by(answer: Answer, line: u64, ends: bool) -> Option<Stop>
+    ensures { result ≡ stop_by answer line ends }
+{
+    match answer {
+        Answer::Outside => Some(Stop::BadLine { line }),
+        Answer::Spent => Some(Stop::Full { line }),
+        _ if ends => Some(Stop::Asked),
         _ => None,
     }
 }
@@ -240,24 +187,52 @@ pub fn bad(run: &mut Runner)
     run.stop = Some(Stop::BadLine { line: run.line });
 }
 
-// The entries and the text of a line that was read, and what is due behind them.
+// What follows a line's own part: a refusal is told, and what is due is handed out.
+fn settle(
+    solo: &mut Solo,
+    alloc: Global,
+    answer: Answer,
+    line: u64,
+    out: &mut Vec<u8>,
+) -> Result<Answer, NoMemory>
+    ensures { Does (settles answer line solo.old) solo.old out.old.items result solo.new out.new.items }
+{
+    match answer {
+        Answer::Done => hand_out(solo, alloc, out),
+        Answer::Refused(word) => {
+            let Ok(text) = refused_line(alloc, line, word) else {
+                return Err(NoMemory);
+            };
+            let Ok(()) = put(out, text.as_slice()) else {
+                return Err(NoMemory);
+            };
+            hand_out(solo, alloc, out)
+        }
+        _ => Ok(answer),
+    }
+}
+
+// A line that was read: its own part, and what follows.
 fn by_line(run: &mut Runner, line: DriveLine, out: &mut Vec<u8>) -> Result<(), NoMemory>
     requires { IsValidLine line }
     ensures world { OnOk result (seen run.new ≡ line_by (seen run.old) (Some line)) }
-    ensures text { OnOk result (out.new.items ≡ out.old.items ++ line_by_text (seen run.old) (Some line)) }
-    ensures partly { OnErr result (IsBetween run.old.solo (line_by (seen run.old) (Some line)).session run.new.solo) }
+    ensures text { OnOk result (out.new.items ≡ out.old.items ++ text_by (seen run.old) (Some line)) }
+    ensures partly { OnErr result (IsBetween run.old.solo (base (seen run.old) line) (line_deed (seen run.old) line).entries run.new.solo) }
 {
-    let kind = kind_of(&line);
-    if !act(&mut run.solo, run.alloc, line, out)? {
-        bad(run);
-        return Ok(());
-    }
-    let line = run.line.saturating_add(1);
-    let stop = stop_by(kind, line, run.solo.broken().is_some());
-    hand_out(&mut run.solo, run.alloc, out)?;
+    let number = run.line.saturating_add(1);
+    let begins = begins(&line);
+    let ends = is_end(&line);
+    let Ok(own) = act(run, line, out) else {
+        return Err(NoMemory);
+    };
+    let Ok(answer) = settle(&mut run.solo, run.alloc, own, number, out) else {
+        return Err(NoMemory);
+    };
+    run.begun = run.begun || begins;
+    run.refused = run.refused || is_refusal(own);
     run.part.clear();
-    run.line = line;
-    run.stop = stop;
+    run.line = number;
+    run.stop = stop_by(answer, number, ends);
     Ok(())
 }
 
@@ -265,7 +240,7 @@ fn by_line(run: &mut Runner, line: DriveLine, out: &mut Vec<u8>) -> Result<(), N
 pub fn line_step(run: &mut Runner, out: &mut Vec<u8>) -> Result<(), NoMemory>
     ensures world { OnOk result (seen run.new ≡ line_step (seen run.old)) }
     ensures text { OnOk result (out.new.items ≡ out.old.items ++ line_text (seen run.old)) }
-    ensures partly { OnErr result (IsBetween run.old.solo (line_step (seen run.old)).session run.new.solo) }
+    ensures partly { OnErr result (IsBetween run.old.solo (line_base (seen run.old)) (line_entries (seen run.old)) run.new.solo) }
 {
     match read_drive(run.alloc, &run.part) {
         Ok(line) => by_line(run, line, out),

@@ -11,9 +11,9 @@ ghost use Rattle.oi_drive.specs.Worlds.{one_more};
 ghost use Rattle.oi_script.specs.Printed.{fault_text};
 ghost use Rattle.oi_drive.specs.declared.runner.Broken.TheVariants.{Memory, Write};
 ghost use Rattle.oi_history.specs.Phases.{is_ended};
-ghost use Rattle.oi_session.specs.Sessions.{now_of, run_of};
+ghost use Rattle.oi_solo.specs.Sessions.{now_of, run_of};
 
-use crate::acting::hand_out;
+use crate::handing::hand_out;
 use crate::reading::read_input;
 use crate::runner::{Broken, Runner, Stop};
 use crate::writing::write_all;
@@ -21,13 +21,14 @@ use oi_base::{NoMemory, Series};
 use oi_history::{End, SessionConfig};
 use oi_outside::{Failed, Sink, Source};
 use oi_script::fault_line;
-use oi_session::{Run, Solo};
+use oi_solo::{Run, Solo};
 use std::alloc::Global;
 
 /// What a run of the program came to.
 #[derive(Debug, Drop)]
 pub struct Ended {
-    /// 0; 3 for want of memory; 7 for a line outside the language; 30 and 31 for a failed source and sink.
+    /// 0; 3 for want of memory; 7 for a line outside the language; 30 and 31 for a failed source and sink; 34 for a line that
+    /// would pass a limit of the history; 35 where a line was refused.
     pub status: u8,
     /// One run for each session that was opened.
     pub runs: Series<Run>,
@@ -62,6 +63,9 @@ fn open(alloc: Global) -> Result<Runner, NoMemory>
     Ok(Runner {
         alloc,
         solo,
+        links: Vec::new(alloc),
+        begun: false,
+        refused: false,
         part: Vec::new(alloc),
         line: 0,
         stop: None,
@@ -74,15 +78,19 @@ fn cause_of(stop: Option<Stop>) -> End
     match stop {
         Some(Stop::Asked) => End::Asked,
         Some(Stop::BadLine { .. }) => End::Stopped { status: 7 },
+        Some(Stop::Full { .. }) => End::Stopped { status: 34 },
         _ => End::InputEnd,
     }
 }
 
-fn status_of(stop: Option<Stop>) -> u8
-    ensures { result ≡ status_of stop }
+fn status_of(stop: Option<Stop>, refused: bool) -> u8
+    ensures status { result ≡ status_of stop refused }
+    ensures others { (result ≡ 30 → ⊥) × (result ≡ 31 → ⊥) }
 {
     match stop {
         Some(Stop::BadLine { .. }) => 7,
+        Some(Stop::Full { .. }) => 34,
+        _ if refused => 35,
         _ => 0,
     }
 }
@@ -101,7 +109,10 @@ fn close_session(
     ensures entries { IsEndedBy cause solo.old solo.new }
 {
     terminate(solo, cause);
-    hand_out(solo, alloc, out)
+    match hand_out(solo, alloc, out) {
+        Ok(_) => Ok(()),
+        Err(_) => Err(NoMemory),
+    }
 }
 
 fn terminate(solo: &mut Solo, cause: End)
@@ -114,8 +125,14 @@ fn terminate(solo: &mut Solo, cause: End)
 fn put_stop(alloc: Global, stop: Option<Stop>, out: &mut Vec<u8>) -> Result<(), NoMemory>
     ensures { OnOk result (out.new.items ≡ out.old.items ++ stop_text stop) }
 {
-    if let Some(Stop::BadLine { line }) = stop {
-        out.extend_from_slice(fault_line(alloc, 7, line)?.as_slice())?;
+    match stop {
+        Some(Stop::BadLine { line }) => {
+            out.extend_from_slice(fault_line(alloc, 7, line)?.as_slice())?;
+        }
+        Some(Stop::Full { line }) => {
+            out.extend_from_slice(fault_line(alloc, 34, line)?.as_slice())?;
+        }
+        _ => {}
     }
     Ok(())
 }
@@ -134,11 +151,11 @@ fn put_out<K: Sink>(sink: &mut K, text: &[u8], status: u8) -> u8
     requires { status ≡ 31 → ⊥ }
     ensures puts { PutsOut text.now status result (K.held sink.old) (K.held sink.new) (K.faults sink.old) (K.faults sink.new) }
     ensures front { IsFront text.now (K.held sink.old) (K.held sink.new) }
-    ensures kept { (status ≡ 0 → ⊥) → result ≡ status }
+    ensures kept { (status ≡ 0 → ⊥) → (status ≡ 35 → ⊥) → result ≡ status }
 {
     match write_and_flush(sink, text) {
         Ok(()) => status,
-        Err(_) => if status == 0 { 31 } else { status },
+        Err(_) => if status == 0 || status == 35 { 31 } else { status },
     }
 }
 
@@ -159,7 +176,7 @@ fn close_read<K: Sink>(run: &mut Runner, sink: &mut K) -> u8
         Ok(()) => {}
         Err(_) => return 3,
     }
-    put_out(sink, &text, status_of(stop))
+    put_out(sink, &text, status_of(stop, run.refused))
 }
 
 fn broken_status(broken: Broken) -> u8
@@ -202,7 +219,7 @@ fn put_fault(alloc: Global, status: u8, line: u64, out: &mut Vec<u8>) -> Result<
 
 // Prints the last text of a run that broke, with its fault. Answers the status.
 fn put_broken<K: Sink>(sink: &mut K, alloc: Global, status: u8, line: u64, text: &mut Vec<u8>) -> u8
-    requires { (status ≡ 0 → ⊥) × (status ≡ 31 → ⊥) }
+    requires { (status ≡ 0 → ⊥) × (status ≡ 31 → ⊥) × (status ≡ 35 → ⊥) }
     ensures status { (result ≡ 3 → ⊥) → result ≡ status }
     ensures memory { status ≡ 3 → result ≡ 3 }
     ensures front { IsFront (text.old.items ++ fault_text status (one_more line)) (K.held sink.old) (K.held sink.new) }

@@ -2,8 +2,10 @@
 #![tactic(auto)]
 
 mod acting;
+mod answer;
+mod deeds;
 mod ended;
-mod pdus;
+mod handing;
 mod reading;
 mod runner;
 mod taking;

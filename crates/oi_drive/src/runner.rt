@@ -1,5 +1,6 @@
 use oi_base::NoMemory;
-use oi_session::Solo;
+use oi_solo::Solo;
+use oi_stream::Splitter;
 use std::alloc::Global;
 
 /// Why the input stopped.
@@ -10,14 +11,8 @@ pub enum Stop {
     InputEnd,
     /// This line is outside the language.
     BadLine { line: u64 },
-}
-
-/// What a line may stop.
-#[derive(Clone, Copy, Debug, PartialEq, Eq)]
-pub enum LineKind {
-    Receiving,
-    Ending,
-    Other,
+    /// This line would pass a limit of the history.
+    Full { line: u64 },
 }
 
 /// What broke a run.
@@ -33,6 +28,12 @@ pub enum Broken {
 pub struct Runner {
     pub alloc: Global,
     pub solo: Solo,
+    /// One for each login.
+    pub links: Vec<Splitter>,
+    /// A line stood that is no setting.
+    pub begun: bool,
+    /// A line was refused.
+    pub refused: bool,
     pub part: Vec<u8>,
     pub line: u64,
     pub stop: Option<Stop>,

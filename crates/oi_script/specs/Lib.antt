@@ -1,4 +1,10 @@
+pub mod Applied
+pub mod Keys
 pub mod Lines
+pub mod Notices
 pub mod Numbers
 pub mod Printed
 pub mod Readings
+pub mod Requests
+pub mod Settings
+pub mod Words

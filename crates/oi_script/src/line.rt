@@ -1,11 +1,18 @@
-use oi_base::{Blob, NoMemory, Params};
+use oi_base::{Blob, Label, NoMemory, Params};
 use oi_scsi::Request;
 use std::alloc::AllocError;
 use thiserror::Error;
 
 /// One input line of `drive`.
-#[derive(Debug, Drop)]
+#[derive(Debug, Drop, PartialEq, Eq)]
 pub enum DriveLine {
+    /// An empty line or a comment.
+    Skip,
+    /// A setting of the session has this value; -1 is for a time without end.
+    Set {
+        name: Label,
+        value: i64,
+    },
     /// The connection reached the full feature phase.
     Login {
         cmdsn: u32,
@@ -25,6 +32,23 @@ pub enum DriveLine {
         generation: u64,
         bytes: Blob,
     },
+    /// The connection is cut.
+    Cut,
+    /// The clock reads so many milliseconds.
+    Tick {
+        now: u64,
+    },
+    Abort {
+        id: u64,
+    },
+    ResetLun {
+        lun: u8,
+    },
+    ResetTarget,
+    /// The session is to log out.
+    Leave,
+    /// The command window is to be printed.
+    Window,
     End,
 }
 

@@ -10,7 +10,8 @@ use oi_history::Outcome;
 use oi_recovery::Residual;
 use std::alloc::Global;
 
-fn put(out: &mut Vec<u8>, text: &[u8]) -> Result<(), NoMemory>
+/// Appends a text.
+pub fn put(out: &mut Vec<u8>, text: &[u8]) -> Result<(), NoMemory>
     ensures { OnOk result (out.new.items ≡ out.old.items ++ text.now) }
 {
     out.extend_from_slice(text)?;

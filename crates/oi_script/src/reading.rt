@@ -1,105 +1,59 @@
-ghost use Rattle.std.specs.Prelude.{◌≡◌, ◌<◌, ◌≤◌, ◌-◌, ◌^◌, ◌∷◌, [], ℕ, Some, IfOk, IfSome, map};
-ghost use Rattle.oi_script.specs.Lines.{IsValidLine, bytes_of, capacity_of, drive_line, line_of_words, login_of, read_of, recv_of, send_of, standard_params, words_of};
-ghost use Rattle.oi_script.specs.Numbers.{number_in};
+ghost use Rattle.std.specs.Prelude.{◌≡◌, ◌-◌, ◌^◌, ◌∷◌, IfOk, IfSome, map};
+ghost use Rattle.oi_script.specs.Lines.{IsValidLine, abort_of, bare_line, bytes_of, control_line, drive_line, line_by, line_of_words, login_of, recv_of, reset_lun_of, send_of, submit_line, tick_of};
 ghost use Rattle.oi_script.specs.Readings.{IsReading};
 
+use crate::blanks::{is_skipped, words};
+use crate::keys::read_keys;
 use crate::line::{DriveLine, LineFault};
 use crate::numbers::{is_text, number};
+use crate::requests::{lun, request};
+use crate::settings::set;
 use hex::FromHexError;
-use oi_base::{Blob, Params};
-use oi_scsi::{Kind, Request};
-use std::alloc::{AllocError, Global};
+use oi_base::{Blob, NoMemory};
+use std::alloc::Global;
 
 const MOST: u64 = u32::MAX as u64;
 
-/// The defaults of RFC 7143, section 13.
-fn standard_params() -> Params
-    ensures { result ≡ standard_params }
-{
-    Params {
-        initial_r2t: true,
-        immediate: true,
-        max_send: 8192,
-        max_recv: 262_144,
-        max_burst: 262_144,
-        first_burst: 65_536,
-        outstanding: 1,
-        time2wait: 2,
-        time2retain: 20,
-    }
-}
-
-fn login(a: Option<u64>, b: Option<u64>, c: Option<u64>) -> Option<DriveLine>
-    requires a { (n : ℕ) → a ≡ Some n → n < 2 ^ 32 }
-    requires b { (n : ℕ) → b ≡ Some n → n < 2 ^ 32 }
-    requires c { (n : ℕ) → c ≡ Some n → n < 2 ^ 32 }
-    ensures line { result ≡ login_of a b c }
+// `login CMDSN MAX EXPSTAT KEY=VALUE..`
+fn login(fields: &[&[u8]]) -> Option<DriveLine>
+    ensures line { result ≡ login_of (map (λ w. w.now) fields.now) }
     ensures valid { IfSome result (λ l. IsValidLine l) }
 {
-    match (a, b, c) {
-        (Some(cmdsn), Some(max), Some(exp_stat)) => Some(DriveLine::Login {
-            cmdsn: cmdsn as u32,
-            max: max as u32,
-            exp_stat: exp_stat as u32,
-            params: standard_params(),
-        }),
+    match fields {
+        [cmdsn, max, exp_stat, words @ ..] => {
+            let cmdsn = number(cmdsn, 0, MOST)?;
+            let max = number(max, 0, MOST)?;
+            let exp_stat = number(exp_stat, 0, MOST)?;
+            let keys = read_keys(words)?;
+            Some(DriveLine::Login {
+                cmdsn: cmdsn as u32,
+                max: max as u32,
+                exp_stat: exp_stat as u32,
+                params: keys.params(),
+            })
+        }
         _ => None,
     }
 }
 
-fn capacity(a: Option<u64>) -> Option<DriveLine>
-    requires { (n : ℕ) → a ≡ Some n → n < 256 }
-    ensures line { result ≡ capacity_of a }
+// `send N`
+fn send(fields: &[&[u8]]) -> Option<DriveLine>
+    ensures line { result ≡ send_of (map (λ w. w.now) fields.now) }
     ensures valid { IfSome result (λ l. IsValidLine l) }
 {
-    match a {
-        Some(lun) => Some(DriveLine::Submit {
-            request: Request {
-                lun: lun as u8,
-                kind: Kind::Capacity,
-            },
-        }),
-        None => None,
-    }
-}
-
-fn read(a: Option<u64>, b: Option<u64>, c: Option<u64>) -> Option<DriveLine>
-    requires a { (n : ℕ) → a ≡ Some n → n < 256 }
-    requires c { (n : ℕ) → c ≡ Some n → (1 ≤ n) × (n ≤ 2048) }
-    ensures line { result ≡ read_of a b c }
-    ensures valid { IfSome result (λ l. IsValidLine l) }
-{
-    match (a, b, c) {
-        (Some(lun), Some(lba), Some(blocks)) if lba <= (1 << 63) - blocks => Some(
-            DriveLine::Submit {
-                request: Request {
-                    lun: lun as u8,
-                    kind: Kind::Read {
-                        lba,
-                        blocks: blocks as u16,
-                    },
-                },
-            },
-        ),
+    match fields {
+        [count] => {
+            let count = number(count, 1, 65_536)?;
+            Some(DriveLine::Send {
+                count: count as u32,
+            })
+        }
         _ => None,
-    }
-}
-
-fn send(a: Option<u64>) -> Option<DriveLine>
-    requires { (n : ℕ) → a ≡ Some n → n < 2 ^ 32 }
-    ensures line { result ≡ send_of a }
-    ensures valid { IfSome result (λ l. IsValidLine l) }
-{
-    match a {
-        Some(count) => Some(DriveLine::Send {
-            count: count as u32,
-        }),
-        None => None,
     }
 }
 
 // One or more pairs of hex digits.
-fn bytes(alloc: Global, text: &[u8]) -> Result<Option<Blob>, AllocError>
+fn bytes(alloc: Global, text: &[u8]) -> Result<Option<Blob>, NoMemory>
     ensures { IfOk result (λ o. o ≡ bytes_of text.now) }
 {
     if text.is_empty() {
@@ -107,100 +61,156 @@ fn bytes(alloc: Global, text: &[u8]) -> Result<Option<Blob>, AllocError>
     }
     match hex::decode(alloc, text) {
         Ok(bytes) => Ok(Some(Blob::from_vec(bytes))),
-        Err(FromHexError::OutOfMemory) => Err(AllocError),
+        Err(FromHexError::OutOfMemory) => Err(NoMemory),
         Err(_) => Ok(None),
     }
 }
 
-fn recv(alloc: Global, a: &[u8], b: &[u8]) -> Result<Option<DriveLine>, AllocError>
-    ensures line { IfOk result (λ o. o ≡ recv_of (number_in 1 (2 ^ 64 - 1) a.now) (bytes_of b.now)) }
+// `recv G HEX`
+fn recv(alloc: Global, fields: &[&[u8]]) -> Result<Option<DriveLine>, NoMemory>
+    ensures line { IfOk result (λ o. o ≡ recv_of (map (λ w. w.now) fields.now)) }
     ensures valid { IfOk result (λ o. IfSome o (λ l. IsValidLine l)) }
 {
-    let generation = number(a, 1, u64::MAX);
-    let bytes = bytes(alloc, b)?;
-    match (generation, bytes) {
-        (Some(generation), Some(bytes)) => Ok(Some(DriveLine::Recv { generation, bytes })),
+    match fields {
+        [generation, text] => {
+            let generation = number(generation, 1, u64::MAX);
+            let bytes = bytes(alloc, text)?;
+            match (generation, bytes) {
+                (Some(generation), Some(bytes)) => Ok(Some(DriveLine::Recv { generation, bytes })),
+                _ => Ok(None),
+            }
+        }
         _ => Ok(None),
     }
 }
 
-fn one_word(w: &[u8]) -> Option<DriveLine>
-    ensures line { result ≡ line_of_words (w.now ∷ []) }
+// `tick T`
+fn tick(fields: &[&[u8]]) -> Option<DriveLine>
+    ensures line { result ≡ tick_of (map (λ w. w.now) fields.now) }
     ensures valid { IfSome result (λ l. IsValidLine l) }
 {
-    if is_text(w, b"end") {
+    match fields {
+        [now] => {
+            let now = number(now, 0, (1 << 53) - 1)?;
+            Some(DriveLine::Tick { now })
+        }
+        _ => None,
+    }
+}
+
+// `abort ID`
+fn abort(fields: &[&[u8]]) -> Option<DriveLine>
+    ensures line { result ≡ abort_of (map (λ w. w.now) fields.now) }
+    ensures valid { IfSome result (λ l. IsValidLine l) }
+{
+    match fields {
+        [id] => {
+            let id = number(id, 0, u64::MAX)?;
+            Some(DriveLine::Abort { id })
+        }
+        _ => None,
+    }
+}
+
+// `reset-lun LUN`
+fn reset_lun(fields: &[&[u8]]) -> Option<DriveLine>
+    ensures line { result ≡ reset_lun_of (map (λ w. w.now) fields.now) }
+    ensures valid { IfSome result (λ l. IsValidLine l) }
+{
+    match fields {
+        [unit] => {
+            let lun = lun(unit)?;
+            Some(DriveLine::ResetLun { lun })
+        }
+        _ => None,
+    }
+}
+
+// A line of one word.
+fn bare(word: &[u8]) -> Option<DriveLine>
+    ensures line { result ≡ bare_line word.now }
+    ensures valid { IfSome result (λ l. IsValidLine l) }
+{
+    if is_text(word, b"end") {
         Some(DriveLine::End)
+    } else if is_text(word, b"cut") {
+        Some(DriveLine::Cut)
+    } else if is_text(word, b"reset-target") {
+        Some(DriveLine::ResetTarget)
+    } else if is_text(word, b"leave") {
+        Some(DriveLine::Leave)
+    } else if is_text(word, b"window") {
+        Some(DriveLine::Window)
     } else {
         None
     }
 }
 
-fn two_words(w: &[u8], a: &[u8]) -> Option<DriveLine>
-    ensures line { result ≡ line_of_words (w.now ∷ a.now ∷ []) }
-    ensures valid { IfSome result (λ l. IsValidLine l) }
-{
-    if is_text(w, b"capacity") {
-        capacity(number(a, 0, 255))
-    } else if is_text(w, b"send") {
-        send(number(a, 1, 65_536))
-    } else {
-        None
-    }
-}
-
-fn three_words(alloc: Global, w: &[u8], a: &[u8], b: &[u8]) -> Result<Option<DriveLine>, AllocError>
-    ensures line { IfOk result (λ o. o ≡ line_of_words (w.now ∷ a.now ∷ b.now ∷ [])) }
+// A request, or a line of one word.
+fn submit(alloc: Global, verb: &[u8], fields: &[&[u8]]) -> Result<Option<DriveLine>, NoMemory>
+    ensures line { IfOk result (λ o. o ≡ submit_line verb.now (map (λ w. w.now) fields.now)) }
     ensures valid { IfOk result (λ o. IfSome o (λ l. IsValidLine l)) }
 {
-    if is_text(w, b"recv") {
-        recv(alloc, a, b)
-    } else {
-        Ok(None)
+    match fields {
+        [] => Ok(bare(verb)),
+        [unit, rest @ ..] => match request(alloc, verb, unit, rest)? {
+            Some(request) => Ok(Some(DriveLine::Submit { request })),
+            None => Ok(None),
+        },
     }
 }
 
-fn four_words(w: &[u8], a: &[u8], b: &[u8], c: &[u8]) -> Option<DriveLine>
-    ensures line { result ≡ line_of_words (w.now ∷ a.now ∷ b.now ∷ c.now ∷ []) }
-    ensures valid { IfSome result (λ l. IsValidLine l) }
+fn control(alloc: Global, verb: &[u8], fields: &[&[u8]]) -> Result<Option<DriveLine>, NoMemory>
+    ensures line { IfOk result (λ o. o ≡ control_line verb.now (map (λ w. w.now) fields.now)) }
+    ensures valid { IfOk result (λ o. IfSome o (λ l. IsValidLine l)) }
 {
-    if is_text(w, b"login") {
-        login(number(a, 0, MOST), number(b, 0, MOST), number(c, 0, MOST))
-    } else if is_text(w, b"read") {
-        read(
-            number(a, 0, 255),
-            number(b, 0, u64::MAX),
-            number(c, 1, 2048),
-        )
+    if is_text(verb, b"tick") {
+        Ok(tick(fields))
+    } else if is_text(verb, b"abort") {
+        Ok(abort(fields))
+    } else if is_text(verb, b"reset-lun") {
+        Ok(reset_lun(fields))
     } else {
-        None
+        submit(alloc, verb, fields)
     }
 }
 
-// The words of a line, where blanks part them.
-fn words(alloc: Global, line: &[u8]) -> Result<Vec<&[u8]>, AllocError>
-    ensures { IfOk result (λ v. map (λ w. w.now) v.items ≡ words_of line.now) }
+fn by_verb(alloc: Global, verb: &[u8], fields: &[&[u8]]) -> Result<Option<DriveLine>, NoMemory>
+    ensures line { IfOk result (λ o. o ≡ line_by verb.now (map (λ w. w.now) fields.now)) }
+    ensures valid { IfOk result (λ o. IfSome o (λ l. IsValidLine l)) }
 {
-    line.split(|b| *b == b' ' || *b == b'\t').collect(alloc)
+    if is_text(verb, b"recv") {
+        recv(alloc, fields)
+    } else if is_text(verb, b"send") {
+        Ok(send(fields))
+    } else if is_text(verb, b"login") {
+        Ok(login(fields))
+    } else if is_text(verb, b"set") {
+        set(alloc, fields)
+    } else {
+        control(alloc, verb, fields)
+    }
 }
 
-fn by_words(alloc: Global, words: &[&[u8]]) -> Result<Option<DriveLine>, AllocError>
+fn by_words(alloc: Global, words: &[&[u8]]) -> Result<Option<DriveLine>, NoMemory>
     ensures line { IfOk result (λ o. o ≡ line_of_words (map (λ w. w.now) words.now)) }
     ensures valid { IfOk result (λ o. IfSome o (λ l. IsValidLine l)) }
 {
     match words {
-        [w] => Ok(one_word(w)),
-        [w, a] => Ok(two_words(w, a)),
-        [w, a, b] => three_words(alloc, w, a, b),
-        [w, a, b, c] => Ok(four_words(w, a, b, c)),
-        _ => Ok(None),
+        [verb, fields @ ..] => by_verb(alloc, verb, fields),
+        [] => Ok(None),
     }
 }
 
 /// Reads one line, without its line feed.
+#[tactic(auto, unfolding(crate::specs::Lines::drive_line))]
 pub fn read_drive(alloc: Global, line: &[u8]) -> Result<DriveLine, LineFault>
     ensures line { IsReading (drive_line line.now) result }
     ensures valid { IfOk result (λ l. IsValidLine l) }
 {
+    if is_skipped(line) {
+        return Ok(DriveLine::Skip);
+    }
     let words = words(alloc, line)?;
     match by_words(alloc, &words)? {
         Some(line) => Ok(line),

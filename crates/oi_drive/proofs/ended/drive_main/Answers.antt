@@ -1,6 +1,6 @@
 use Rattle.std.proofs.Common.{List, subst, sym}
 use Rattle.oi_drive.specs.Endings.{IsDrive}
-use Rattle.oi_session.specs.Sessions.{RunView}
+use Rattle.oi_solo.specs.Sessions.{RunView}
 use Rattle.oi_drive.proofs.ended.drive_main.Goals as goal
 
 pub returns-clause-exact : goal.returns-clause-exact

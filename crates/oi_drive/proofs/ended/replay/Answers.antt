@@ -2,7 +2,7 @@ use Rattle.std.proofs.Common.{◌∷◌, []}
 use Rattle.oi_drive.proofs.Closings.{broken_cause, broken_exact, closes_cause, closes_exact, partly_left, whole_left}
 use Rattle.oi_drive.specs.Endings.{IsDrive}
 use Rattle.oi_drive.specs.Runs.{seen}
-use Rattle.oi_session.specs.Sessions.{run_of}
+use Rattle.oi_solo.specs.Sessions.{run_of}
 use Rattle.oi_drive.proofs.ended.replay.Goals as goal
 
 pub returns-in-Ok-clause-exact : goal.returns-in-Ok-clause-exact

@@ -1,6 +1,5 @@
 use Rattle.std.proofs.Common.{refl}
-use Rattle.oi_drive.proofs.Breaks.{not_begun}
-use Rattle.oi_drive.proofs.Repeats.{on_error}
+use Rattle.oi_drive.proofs.Breaks.{not_begun, on_error}
 use Rattle.oi_drive.specs.Runs.{seen}
 use Rattle.oi_drive.proofs.taking.take_byte.Goals as goal
 
