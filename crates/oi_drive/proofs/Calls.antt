@@ -354,6 +354,16 @@ turn_part g old new bytes (Err step.Memory) p = part_same (turns g old).entries 
 pub turn_broke : (g : ℕ) (old new : Session) (bytes before after : List ℕ) (r : Result Transmit StepRefused) (e : NoMemory) → Transmits old g [] r new bytes → Turns g old before (Err e) new after
 turn_broke g old new bytes before after r e p = turn_part g old new bytes r p
 
+-- into a buffer that was empty
+
+pub turn_made : (g : ℕ) (old new : Session) (first bytes before after : List ℕ) (r : Result Transmit StepRefused) (s : Result Turn NoMemory) (t : Turn) → first ≡ [] → Transmits old g first r new bytes
+    → s ≡ turned r → s ≡ Ok t → after ≡ before ++ turn_line t g bytes → Turns g old before (Ok t) new after
+turn_made g old new first bytes before after r s t none p = turn_is g old new bytes before after r s t (subst (λ (z : List ℕ). Transmits old g z r new bytes) none p)
+
+pub turn_failed : (g : ℕ) (old new : Session) (first bytes before after : List ℕ) (r : Result Transmit StepRefused) (e : NoMemory) → first ≡ [] → Transmits old g first r new bytes
+    → Turns g old before (Err e) new after
+turn_failed g old new first bytes before after r e none p = turn_broke g old new bytes before after r e (subst (λ (z : List ℕ). Transmits old g z r new bytes) none p)
+
 -- what is due
 
 due_none : (ds : List Delivered) → length ds ≡ 0 → (length ds == 0) ≡ true

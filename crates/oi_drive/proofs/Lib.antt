@@ -1,6 +1,8 @@
 pub mod Going
 pub mod Calls
 pub mod Sendings
+pub mod Splits
+pub mod Actings
 pub mod Answered
 pub mod Configs
 pub mod Outputs

@@ -6,6 +6,7 @@ pub mod Inputs
 pub mod Parts
 pub mod Requests
 pub mod Runs
+pub mod Splits
 pub mod Steps
 pub mod Worlds
 pub mod Writes

@@ -27,8 +27,8 @@ fn live(solo: &Solo) -> Option<u64>
     }
 }
 
-// Nothing follows a part of a line that ended so.
-fn stops(answer: Answer) -> bool
+/// Nothing follows a part of a line that ended so.
+pub fn stops(answer: Answer) -> bool
     ensures { result ≡ stops answer }
 {
     match answer {
@@ -55,8 +55,8 @@ fn put_made(out: &mut Vec<u8>, text: Result<Blob, NoMemory>) -> Result<(), NoMem
     }
 }
 
-// A text is all.
-fn say(out: &mut Vec<u8>, text: Result<Blob, NoMemory>) -> Result<Answer, NoMemory>
+/// A text is all.
+pub fn say(out: &mut Vec<u8>, text: Result<Blob, NoMemory>) -> Result<Answer, NoMemory>
     ensures { (s : Session) (t : List ℕ) → IfOk text (λ u. u ≡ t) → Does (says t) s out.old.items result s out.new.items }
 {
     match put_made(out, text) {

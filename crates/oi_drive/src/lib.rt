@@ -6,6 +6,8 @@ mod answer;
 mod deeds;
 mod ended;
 mod handing;
+mod lines;
+mod link;
 mod reading;
 mod runner;
 mod taking;

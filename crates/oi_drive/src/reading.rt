@@ -4,7 +4,7 @@ ghost use Rattle.oi_drive.specs.Inputs.{ReadsAll, ReadsOnce};
 ghost use Rattle.oi_drive.specs.Runs.{seen};
 ghost use Rattle.oi_drive.specs.Worlds.{input_over};
 
-use crate::acting::bad;
+use crate::lines::bad;
 use crate::runner::{Broken, Runner};
 use crate::taking::{end_of_input, take_piece};
 use oi_base::NoMemory;

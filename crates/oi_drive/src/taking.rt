@@ -4,7 +4,7 @@ ghost use Rattle.oi_drive.specs.Runs.{seen};
 ghost use Rattle.oi_drive.specs.Worlds.{byte_text, feed, feed_byte, feed_text, input_end, input_end_text, line_step, line_text, stopped_at_end};
 ghost use Rattle.oi_drive.specs.Writes.{Counts, Prints};
 
-use crate::acting::{bad, line_step};
+use crate::lines::{bad, line_step};
 use crate::runner::{Broken, Runner, Stop};
 use crate::writing::print;
 use oi_base::NoMemory;
