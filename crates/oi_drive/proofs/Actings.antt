@@ -1,13 +1,13 @@
 -- A line's own part, by its deed.
-use Rattle.std.proofs.Common.{◌≡◌, ◌⊎◌, inl, inr, ◌∙◌, ◌-◌, ◌≤◌, ℕ, ℤ, Bool, true, false, List, [], ◌∷◌, ◌++◌, Option, Some, None, length, map, set, slice_get, sym, ap, subst, refl, append-nil, Result, Ok, Err, if◌then◌else◌}
+use Rattle.std.proofs.Common.{◌≡◌, ◌⊎◌, inl, inr, ◌∙◌, ◌-◌, ◌<◌, ◌≤◌, ℕ, ℤ, Bool, true, false, List, [], ◌∷◌, ◌++◌, Option, Some, None, length, map, set, slice_get, slice_index_or, sym, ap, subst, refl, append-nil, Result, Ok, Err, if◌then◌else◌}
 use Rattle.std.proofs.lemmas.List.{map-append, map-set}
-use Rattle.std.proofs.lemmas.Option.{slice_get-map, slice_get_past}
+use Rattle.std.proofs.lemmas.Option.{slice_get-map, slice_get_past, slice_get_read}
 use Rattle.std.specs.Option.{option_map}
 use Rattle.oi_base.specs.Limits.{most_received}
 use Rattle.oi_base.specs.declared.login.LoginDone.{LoginDone}
 use Rattle.oi_base.specs.declared.login.Params.{Params}
 use Rattle.oi_base.specs.declared.memory.NoMemory.{NoMemory}
-use Rattle.oi_drive.proofs.Going.{aloud, stops_not}
+use Rattle.oi_drive.proofs.Going.{aloud}
 use Rattle.oi_drive.specs.Acts.{Does, DoesSilently}
 use Rattle.oi_drive.specs.Deeds.{Deed, fails, logs_in, nothing, receives, stops}
 use Rattle.oi_drive.specs.Splits.{IsSplit}
@@ -59,7 +59,7 @@ acts_broke w v l d before after e from is h =
 
 -- lines that ask something of the session alone
 
-pub is_plain : DriveLine → Bool
+abbrev pub is_plain : DriveLine → Bool
 is_plain (Set name value) = false
 is_plain (Login cmdsn max exp_stat params) = false
 is_plain (Recv generation bytes) = false
@@ -93,59 +93,16 @@ plain_acts w l before after (Ok a) new p h =
 plain_acts w l before after (Err e) new p h =
     let k = plain_is w l p in acts_broke w (record w { session = new }) l (plain_deed l w.session) before after e k.base_is k.deed_is h
 
-pub plain_acts_silently : (w : World) (l : DriveLine) (text : List ℕ) (r : Result Answer NoMemory) (new : Session) → is_plain l ≡ true → DoesSilently (plain_deed l w.session) w.session r new
-    → Acts w l text r (record w { session = new }) text
-plain_acts_silently w l text r new p h = plain_acts w l text text r new p (aloud (plain_deed l w.session) w.session new r text h)
+pub line_acts : (w : World) (l k : DriveLine) (before after : List ℕ) (r : Result Answer NoMemory) (new : Session) → l ≡ k → is_plain k ≡ true → Does (plain_deed k w.session) w.session before r new after
+    → Acts w l before r (record w { session = new }) after
+line_acts w l k before after r new is p h =
+    subst (λ (x : DriveLine). Acts w x before r (record w { session = new }) after) (sym is) (plain_acts w k before after r new p h)
 
--- settings
-
-pub set_late : (w : World) (name : List ℕ) (value : ℤ) (text : List ℕ) → w.begun ≡ true → Acts w (Set name value) text (Ok Outside) w text
-set_late w name value text begun =
-    acted_by w w (Set name value) w.session (fails Outside) text text Outside
-    (ap (λ (b : Bool). if b then w.session else unused (set_to (setting_of name) value w.session.config)) begun) (ap (λ (b : Bool). if b then fails Outside else nothing) begun)
-    refl (sym (append-nil text)) refl
-
-pub set_done : (w : World) (name : List ℕ) (value : ℤ) (text : List ℕ) (setting : Setting) (new : Session) → w.begun ≡ false → setting_of name ≡ Some setting
-    → new ≡ unused (applied setting value w.session.config) → Acts w (Set name value) text (Ok Done) (record w { session = new }) text
-set_done w name value text setting new begun named is =
-    acted_by w (record w { session = new }) (Set name value) (unused (applied setting value w.session.config)) nothing text text Done
-    (ap (λ (b : Bool). if b then w.session else unused (set_to (setting_of name) value w.session.config)) begun ∙ ap (λ (o : Option Setting). unused (set_to o value w.session.config)) named)
-    (ap (λ (b : Bool). if b then fails Outside else nothing) begun) (ap (λ (s : Session). record w { session = s }) is) (sym (append-nil text)) refl
-
--- logins
-
-same_done : (done : LoginDone) → done.tsih ≡ 0 → done ≡ record { params = done.params; tsih = 0; cmdsn = done.cmdsn; max = done.max; exp_stat = done.exp_stat }
-same_done done is = ap (λ t. let d : LoginDone = record { params = done.params; tsih = t; cmdsn = done.cmdsn; max = done.max; exp_stat = done.exp_stat } in d) is
-
-login_deed : (w : World) (done : LoginDone) → done.tsih ≡ 0 → deed_of w (Login done.cmdsn done.max done.exp_stat done.params) ≡ logs_in done w.session
-login_deed w done is = ap (λ (d : LoginDone). logs_in d w.session) (sym (same_done done is))
-
-not_logged : (a : Answer) (links : List Link) → stops a ≡ true → links ≡ logged a links
-not_logged Done links off = absurd cc
-not_logged (Refused word) links off = refl
-not_logged Outside links off = refl
-not_logged Spent links off = refl
-
-pub login_stops : (w : World) (done : LoginDone) (before after : List ℕ) (a : Answer) (new : Session) → done.tsih ≡ 0 → Does (logs_in done w.session) w.session before (Ok a) new after → stops a ≡ true
-    → Acts w (Login done.cmdsn done.max done.exp_stat done.params) before (Ok a) (record w { session = new }) after
-login_stops w done before after a new tsih h off =
-    acts_done w (Login done.cmdsn done.max done.exp_stat done.params) (logs_in done w.session) before after a new w.links refl (login_deed w done tsih) h (not_logged a w.links off)
-
-link_more : (links : List State) (s : State) (a : Answer) → s ≡ unfed most_received → stops a ≡ false → map link_of (links ++ s ∷ []) ≡ logged a (map link_of links)
-link_more links s a is on =
-    map-append link_of links (s ∷ []) ∙ (ap (λ (x : State). map link_of links ++ link_of x ∷ []) is ∙ ap (λ (x : Answer). logged x (map link_of links)) (sym (stops_not a on)))
-
-pub login_goes : (w : World) (links : List State) (s : State) (done : LoginDone) (before after : List ℕ) (a : Answer) (new : Session) → done.tsih ≡ 0 → w.links ≡ map link_of links
-    → s ≡ unfed most_received → Does (logs_in done w.session) w.session before (Ok a) new after → stops a ≡ false
-    → Acts w (Login done.cmdsn done.max done.exp_stat done.params) before (Ok a) (record w { session = new; links = map link_of (links ++ s ∷ []) }) after
-login_goes w links s done before after a new tsih same is h on =
-    acts_done w (Login done.cmdsn done.max done.exp_stat done.params) (logs_in done w.session) before after a new (map link_of (links ++ s ∷ [])) refl (login_deed w done tsih) h
-    (link_more links s a is on ∙ ap (λ (x : List Link). logged a x) (sym same))
-
-pub login_broke : (w v : World) (done : LoginDone) (before after : List ℕ) (e : NoMemory) → done.tsih ≡ 0 → Does (logs_in done w.session) w.session before (Err e) v.session after
-    → Acts w (Login done.cmdsn done.max done.exp_stat done.params) before (Err e) v after
-login_broke w v done before after e tsih h =
-    acts_broke w v (Login done.cmdsn done.max done.exp_stat done.params) (logs_in done w.session) before after e refl (login_deed w done tsih) h
+pub set_acts : (w v : World) (l : DriveLine) (name text said : List ℕ) (value told : ℤ) (r : Result Answer NoMemory) → l ≡ Set name value → said ≡ name → told ≡ value → Acts w (Set said told) text r v text
+    → Acts w l text r v text
+set_acts w v l name text said value told r is p q h =
+    subst (λ (x : DriveLine). Acts w x text r v text) (sym is)
+    (subst (λ (x : List ℕ). Acts w (Set x value) text r v text) p (subst (λ (x : ℤ). Acts w (Set said x) text r v text) q h))
 
 -- bytes
 
@@ -164,14 +121,14 @@ recv_ended w g bytes text old new pdus here p =
 fed_deed : (w : World) (g : ℕ) (bytes : List ℕ) (old new : Link) (fault : Option Rule) (pdus : List Pdu) → link_at w.links g ≡ Some old → IsSplit old bytes (Ok (Fed fault)) new pdus
     → deed_of w (Recv g bytes) ≡ receives g pdus fault w.session
 fed_deed w g bytes old new fault pdus here p =
-    ap (λ (o : Option Link). receives_on o g bytes w.session) (here ∙ ap (λ (o : Link). let x : Option Link = Some o in x) p.2.0)
-    ∙ (ap (λ (ps : List Pdu). receives g ps (fault_of (fed p.0 bytes).stop) w.session) (sym p.2.1) ∙ ap (λ (o : Option Rule). receives g pdus o w.session) (sym p.2.2))
+    ap (λ (o : Option Link). receives_on o g bytes w.session) (here ∙ ap (λ (o : Link). let x : Option Link = Some o in x) p.1)
+    ∙ (ap (λ (ps : List Pdu). receives g ps (fault_of (fed p.0 bytes).stop) w.session) (sym p.2) ∙ ap (λ (o : Option Rule). receives g pdus o w.session) (sym p.3))
 
 fed_links : (w : World) (g : ℕ) (bytes : List ℕ) (old new : Link) (fault : Option Rule) (pdus : List Pdu) → link_at w.links g ≡ Some old → IsSplit old bytes (Ok (Fed fault)) new pdus
     → set w.links (g - 1) new ≡ refed_at (link_at w.links g) g bytes w.links
 fed_links w g bytes old new fault pdus here p =
-    ap (λ (o : Link). set w.links (g - 1) o) p.2.3
-    ∙ sym (ap (λ (o : Option Link). refed_at o g bytes w.links) (here ∙ ap (λ (o : Link). let x : Option Link = Some o in x) p.2.0))
+    ap (λ (o : Link). set w.links (g - 1) o) p.4
+    ∙ sym (ap (λ (o : Option Link). refed_at o g bytes w.links) (here ∙ ap (λ (o : Link). let x : Option Link = Some o in x) p.1))
 
 pub recv_goes : (w : World) (g : ℕ) (bytes before after : List ℕ) (old new : Link) (fault : Option Rule) (pdus : List Pdu) (a : Answer) (session : Session) → link_at w.links g ≡ Some old
     → IsSplit old bytes (Ok (Fed fault)) new pdus → Does (receives g pdus fault w.session) w.session before (Ok a) session after
@@ -184,3 +141,34 @@ pub recv_broke : (w v : World) (g : ℕ) (bytes before after : List ℕ) (old ne
     → IsSplit old bytes (Ok (Fed fault)) new pdus → Does (receives g pdus fault w.session) w.session before (Err e) v.session after → Acts w (Recv g bytes) before (Err e) v after
 recv_broke w v g bytes before after old new fault pdus e here p h =
     acts_broke w v (Recv g bytes) (receives g pdus fault w.session) before after e refl (fed_deed w g bytes old new fault pdus here p) h
+
+-- on the links of a run
+
+here_is : (links : List State) (at : ℕ) (x : State) → at < length links → x ≡ slice_index_or links at x → slice_get (map link_of links) at ≡ Some (link_of x)
+here_is links at x h is = slice_get-map link_of links at ∙ ap (λ (o : Option State). option_map link_of o) (slice_get_read links (length links) at x refl h is)
+
+pub ended_at : (w : World) (links : List State) (g : ℕ) (bytes text : List ℕ) (x new : State) (pdus : List Pdu) (p : Piece) → w.links ≡ map link_of links → g - 1 < length links
+    → x ≡ slice_index_or links (g - 1) x → p ≡ Ended → IsSplit (link_of x) bytes (Ok p) (link_of new) pdus
+    → Acts w (Recv g bytes) text (Ok Done) (record w { links = map link_of (set links (g - 1) new) }) text
+ended_at w links g bytes text x new pdus p same h is ended split =
+    subst (λ (ls : List Link). Acts w (Recv g bytes) text (Ok Done) (record w { links = ls }) text)
+    (ap (λ (ls : List Link). set ls (g - 1) (link_of new)) same ∙ sym (map-set link_of links (g - 1) new))
+    (recv_ended w g bytes text (link_of x) (link_of new) pdus (ap (λ (ls : List Link). slice_get ls (g - 1)) same ∙ here_is links (g - 1) x h is)
+    (subst (λ (q : Piece). IsSplit (link_of x) bytes (Ok q) (link_of new) pdus) ended split))
+
+recv_does : (w : World) (g : ℕ) (bytes before after : List ℕ) (old new : Link) (fault : Option Rule) (pdus : List Pdu) (r : Result Answer NoMemory) (session : Session) → link_at w.links g ≡ Some old
+    → IsSplit old bytes (Ok (Fed fault)) new pdus → Does (receives g pdus fault w.session) w.session before r session after
+    → Acts w (Recv g bytes) before r (record w { session = session; links = set w.links (g - 1) new }) after
+recv_does w g bytes before after old new fault pdus (Ok a) session here p h = recv_goes w g bytes before after old new fault pdus a session here p h
+recv_does w g bytes before after old new fault pdus (Err e) session here p h =
+    recv_broke w (record w { session = session; links = set w.links (g - 1) new }) g bytes before after old new fault pdus e here p h
+
+pub fed_at : (w : World) (links : List State) (g : ℕ) (bytes before after : List ℕ) (x new : State) (pdus : List Pdu) (p : Piece) (fault : Option Rule) (r : Result Answer NoMemory) (session : Session)
+    → w.links ≡ map link_of links → g - 1 < length links → x ≡ slice_index_or links (g - 1) x → p ≡ Fed fault → IsSplit (link_of x) bytes (Ok p) (link_of new) pdus
+    → Does (receives g pdus fault w.session) w.session before r session after
+    → Acts w (Recv g bytes) before r (record w { session = session; links = map link_of (set links (g - 1) new) }) after
+fed_at w links g bytes before after x new pdus p fault r session same h is fed split does =
+    subst (λ (ls : List Link). Acts w (Recv g bytes) before r (record w { session = session; links = ls }) after)
+    (ap (λ (ls : List Link). set ls (g - 1) (link_of new)) same ∙ sym (map-set link_of links (g - 1) new))
+    (recv_does w g bytes before after (link_of x) (link_of new) fault pdus r session (ap (λ (ls : List Link). slice_get ls (g - 1)) same ∙ here_is links (g - 1) x h is)
+    (subst (λ (q : Piece). IsSplit (link_of x) bytes (Ok q) (link_of new) pdus) fed split) does)

@@ -1,7 +1,6 @@
 pub mod Going
 pub mod Calls
 pub mod Sendings
-pub mod Splits
 pub mod Actings
 pub mod Answered
 pub mod Configs
