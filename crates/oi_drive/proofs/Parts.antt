@@ -3,11 +3,15 @@ use Rattle.std.proofs.Common.{◌≡◌, ◌⊎◌, inl, inr, ◌∙◌, ◌||�
 use Rattle.oi_base.specs.declared.memory.NoMemory.{NoMemory}
 use Rattle.oi_drive.proofs.Going.{does_joined, part_all, part_first, part_then}
 use Rattle.oi_drive.specs.Acts.{Does, IsPart}
-use Rattle.oi_drive.specs.Deeds.{Deed, joined}
+use Rattle.oi_drive.specs.Deeds.{Deed, hands_out, joined, says}
 use Rattle.oi_drive.specs.Parts.{IsBetween}
 use Rattle.oi_drive.specs.Steps.{Acts}
 use Rattle.oi_drive.specs.Worlds.{World, acted, base, base_by, begins, deed_of, entries_by, is_end, is_refusal, line_base, line_by, line_deed, line_entries, line_step, one_more, settles, stop_by}
 use Rattle.oi_drive.specs.declared.answer.Answer.{Answer}
+use Rattle.oi_drive.specs.declared.answer.Answer.TheVariants.{Refused}
+use Rattle.oi_drive.specs.declared.runner.Stop.{Stop}
+use Rattle.oi_script.specs.Notices.{refused_text}
+use Rattle.oi_script.specs.declared.notices.Refusal.{Refusal}
 use Rattle.oi_script.specs.Lines.{drive_line}
 use Rattle.oi_script.specs.declared.line.DriveLine.{DriveLine}
 use Rattle.oi_solo.specs.Sessions.{Session, entered_all}
@@ -61,3 +65,23 @@ pub line_world : (w v : World) (l : DriveLine) (own answer : Answer) (before mid
 line_world w v l own answer before mid after new acts h =
     let whole = line_does w v l own before mid after new (Ok answer) acts h in
     rw (acts.0, acts.2, whole.0, whole.2) refl
+
+pub line_done : (w v : World) (l : DriveLine) (own answer : Answer) (before mid after : List ℕ) (new : Session) (begun refused : Bool) (part : List ℕ) (line : ℕ) (stop : Option Stop) → Acts w l before (Ok own) v mid
+    → line ≡ one_more w.line → Does (settles own line v.session) v.session mid (Ok answer) new after → begun ≡ (v.begun || begins l) → refused ≡ (v.refused || is_refusal own) → part ≡ []
+    → stop ≡ stop_by answer line (is_end l)
+    → (let found : World = record { session = new; links = v.links; begun = begun; refused = refused; part = part; line = line; stop = stop } in found) ≡ line_by w (Some l)
+line_done w v l own answer before mid after new begun refused part line stop acts counts h begins_too refused_too none stops =
+    rw (begins_too, refused_too, none, stops, counts)
+    (line_world w v l own answer before mid after new acts (subst (λ n. Does (settles own n v.session) v.session mid (Ok answer) new after) counts h))
+
+-- a refusal that was told, and what is due handed out behind it
+pub refused_then : (word : Refusal) (line : ℕ) (s new : Session) (before mid after : List ℕ) (own a : Answer) (r : Result Answer NoMemory) → own ≡ Refused word
+    → Does (says (refused_text line word)) s before (Ok a) s mid → Does (hands_out s) s mid r new after → Does (settles own line s) s before r new after
+refused_then word line s new before mid after own a r is told h =
+    subst (λ (x : Answer). Does (settles x line s) s before r new after) (sym is)
+    (does_joined (says (refused_text line word)) (hands_out s) s s new before mid after r refl told.1 h)
+
+pub rest_failed : (w v : World) (l : DriveLine) (own : Answer) (line : ℕ) (before mid after : List ℕ) (new : Session) (e : NoMemory) → Acts w l before (Ok own) v mid → line ≡ one_more w.line
+    → Does (settles own line v.session) v.session mid (Err e) new after → IsBetween w.session (base w l) (line_deed w l).entries new
+rest_failed w v l own line before mid after new e acts counts h =
+    rest_broke w v l own before mid after new e acts (subst (λ n. Does (settles own n v.session) v.session mid (Err e) new after) counts h)

@@ -103,8 +103,8 @@ fn by_line(run: &mut Runner, line: DriveLine, out: &mut Vec<u8>) -> Result<(), N
         Ok(answer) => answer,
         Err(_) => return Err(NoMemory),
     };
-    run.begun = run.begun || begins;
-    run.refused = run.refused || is_refusal(own);
+    run.begun |= begins;
+    run.refused |= is_refusal(own);
     run.part.clear();
     run.line = number;
     run.stop = stop_by(answer, number, ends);
