@@ -1,5 +1,5 @@
 -- Lines done whole or in part.
-use Rattle.std.proofs.Common.{◌≡◌, ◌⊎◌, inl, inr, ◌∙◌, ◌||◌, ℕ, Bool, List, [], ◌++◌, Option, Some, None, sym, ap, subst, refl, Result, Ok, Err}
+use Rattle.std.proofs.Common.{◌≡◌, ◌⊎◌, inl, inr, ◌∙◌, ◌||◌, ℕ, Bool, List, [], ◌++◌, Option, Some, None, sym, ap, subst, refl, Result, Ok, Err, OnErr}
 use Rattle.oi_base.specs.declared.memory.NoMemory.{NoMemory}
 use Rattle.oi_drive.proofs.Going.{does_joined, part_all, part_first, part_then}
 use Rattle.oi_drive.specs.Acts.{Does, IsPart}
@@ -85,3 +85,9 @@ pub rest_failed : (w v : World) (l : DriveLine) (own : Answer) (line : ℕ) (bef
     → Does (settles own line v.session) v.session mid (Err e) new after → IsBetween w.session (base w l) (line_deed w l).entries new
 rest_failed w v l own line before mid after new e acts counts h =
     rest_broke w v l own before mid after new e acts (subst (λ n. Does (settles own n v.session) v.session mid (Err e) new after) counts h)
+
+-- the line that was read
+pub line_partly : (w : World) (part : List ℕ) (l : DriveLine) (r : Result (Unit {0}) NoMemory) (new : Session) → part ≡ w.part → drive_line part ≡ Some l
+    → OnErr r (IsBetween w.session (base w l) (line_deed w l).entries new) → OnErr r (IsBetween w.session (line_base w) (line_entries w) new)
+line_partly w part l r new same is h =
+    subst (λ (o : Option DriveLine). OnErr r (IsBetween w.session (base_by w o) (entries_by w o) new)) (sym (ap drive_line (sym same) ∙ is)) h
