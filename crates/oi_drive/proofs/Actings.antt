@@ -1,34 +1,25 @@
 -- A line's own part, by its deed.
-use Rattle.std.proofs.Common.{◌≡◌, ◌⊎◌, inl, inr, ◌∙◌, ◌-◌, ◌<◌, ◌≤◌, ℕ, ℤ, Bool, true, false, List, [], ◌∷◌, ◌++◌, Option, Some, None, length, map, set, slice_get, slice_index_or, sym, ap, subst, refl, append-nil, Result, Ok, Err, if◌then◌else◌}
-use Rattle.std.proofs.lemmas.List.{map-append, map-set}
-use Rattle.std.proofs.lemmas.Option.{slice_get-map, slice_get_past, slice_get_read}
+use Rattle.std.proofs.Common.{◌≡◌, inr, ◌∙◌, ◌-◌, ◌<◌, ℕ, ℤ, Bool, true, false, List, ◌++◌, Option, Some, None, length, map, set, slice_get, slice_index_or, sym, ap, subst, refl, append-nil, Result, Ok, Err}
+use Rattle.std.proofs.lemmas.List.{map-set}
+use Rattle.std.proofs.lemmas.Option.{slice_get-map, slice_get_read}
 use Rattle.std.specs.Option.{option_map}
-use Rattle.oi_base.specs.Limits.{most_received}
-use Rattle.oi_base.specs.declared.login.LoginDone.{LoginDone}
-use Rattle.oi_base.specs.declared.login.Params.{Params}
 use Rattle.oi_base.specs.declared.memory.NoMemory.{NoMemory}
-use Rattle.oi_drive.proofs.Going.{aloud}
-use Rattle.oi_drive.specs.Acts.{Does, DoesSilently}
-use Rattle.oi_drive.specs.Deeds.{Deed, fails, logs_in, nothing, receives, stops}
+use Rattle.oi_drive.specs.Acts.{Does}
+use Rattle.oi_drive.specs.Deeds.{Deed, fails, nothing, receives}
 use Rattle.oi_drive.specs.Splits.{IsSplit}
 use Rattle.oi_drive.specs.Steps.{Acts}
-use Rattle.oi_drive.specs.Worlds.{Link, World, base, deed_of, fault_of, goes_on, link_at, link_of, linked, logged, plain_deed, receives_on, refed_at, set_to, unused}
+use Rattle.oi_drive.specs.Worlds.{Link, World, base, deed_of, fault_of, link_at, link_of, linked, plain_deed, receives_on, refed_at}
 use Rattle.oi_drive.specs.declared.answer.Answer.{Answer}
-use Rattle.oi_drive.specs.declared.answer.Answer.TheVariants.{Done, Refused, Outside, Spent}
+use Rattle.oi_drive.specs.declared.answer.Answer.TheVariants.{Done, Outside}
 use Rattle.oi_drive.specs.declared.link.Piece.{Piece}
 use Rattle.oi_drive.specs.declared.link.Piece.TheVariants.{Ended, Fed}
 use Rattle.oi_history.specs.declared.rule.Rule.{Rule}
-use Rattle.oi_history.specs.declared.rule.Rule.TheVariants.{Header, TooLong as TooLongSegment}
 use Rattle.oi_pdu.specs.declared.codec.Pdu.{Pdu}
-use Rattle.oi_script.specs.Applied.{applied}
-use Rattle.oi_script.specs.Settings.{setting_of}
 use Rattle.oi_script.specs.declared.line.DriveLine.{DriveLine}
 use Rattle.oi_script.specs.declared.line.DriveLine.TheVariants.{Skip, Set, Login, Submit, Send, Recv, Cut, Tick, Abort, ResetLun as ResetLunLine, ResetTarget as ResetTargetLine, Leave, Window, End}
-use Rattle.oi_script.specs.declared.settings.Setting.{Setting}
 use Rattle.oi_solo.specs.Sessions.{Session, entered_all}
-use Rattle.oi_stream.specs.Bytewise.{fed, unfed}
+use Rattle.oi_stream.specs.Bytewise.{fed}
 use Rattle.oi_stream.specs.Feeding.{State}
-use Rattle.oi_stream.specs.Framing.{Stop as Cease, Short, BadHeader, TooLong}
 
 -- its session and its deed are these
 acted_by : (w v : World) (l : DriveLine) (s : Session) (d : Deed) (before after : List ℕ) (a : Answer) → base w l ≡ s → deed_of w l ≡ d

@@ -1,5 +1,5 @@
 -- A closed run has answered each of its submissions.
-use Rattle.std.proofs.Common.{◌≡◌, ◌∙◌, ◌++◌, ◌<◌, ◌==◌, ◌+◌, ℕ, true, false, List, [], ◌∷◌, length, map, refl, ap, sym, subst, arith, nat_eq, nat_lt, Bool, Result, Ok, Err, OnOk, if◌then◌else◌}
+use Rattle.std.proofs.Common.{◌≡◌, ◌∙◌, ◌++◌, ◌<◌, ◌+◌, ℕ, true, false, List, [], ◌∷◌, length, map, refl, ap, sym, subst, arith, nat_eq, nat_lt, Bool, Result, Ok, Err, OnOk, if◌then◌else◌}
 use Rattle.std.proofs.lemmas.Bool.Decides.{nat_tests}
 use Rattle.oi_drive.specs.Answered.{AreAnswered, AreOnce}
 use Rattle.oi_drive.specs.Deeds.{Deed, due_of_session, hands_out, hands_out_by, nothing}

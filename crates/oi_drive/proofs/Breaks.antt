@@ -10,7 +10,6 @@ use Rattle.oi_drive.specs.Writes.{Counts, Prints}
 use Rattle.oi_drive.specs.declared.runner.Broken.{Broken}
 use Rattle.oi_drive.specs.declared.runner.Broken.TheVariants.{Memory, Read, Write}
 use Rattle.oi_outside.specs.Streams.{behind, in_front}
-use Rattle.oi_solo.specs.Sessions.{Session}
 
 pub no_text : (text : List ℕ) (held : Option (List ℕ)) → IsFront text held held
 no_text text held = record { count = 0; is = sym (behind_none held) }

@@ -1,18 +1,16 @@
 -- What each call of the session does is a deed.
-use Rattle.std.proofs.Common.{◌≡◌, ◌≢◌, ◌⊎◌, inl, inr, ◌∙◌, ◌≤◌, ◌<◌, ◌+◌, ◌==◌, ℕ, suc, zero, Bool, true, false, not, ◌&&◌, List, [], ◌∷◌, ◌++◌, Option, Some, None, length, take, sym, ap, subst, refl, arith, append_assoc, append-nil, Result, Ok, Err, if◌then◌else◌, nat_lt, slice_get}
+use Rattle.std.proofs.Common.{◌≡◌, ◌≢◌, inl, inr, ◌∙◌, ◌≤◌, ◌<◌, ◌+◌, ◌==◌, ℕ, suc, zero, Bool, true, false, not, ◌&&◌, List, [], ◌∷◌, ◌++◌, Option, Some, None, length, sym, ap, subst, refl, arith, append-nil, Result, Ok, Err, if◌then◌else◌, nat_lt, slice_get}
 use Rattle.std.proofs.lemmas.Bool.Decides.{nat_tests}
-use Rattle.std.specs.Prelude.{max}
 use Rattle.oi_base.specs.Limits.{most_pending}
 use Rattle.oi_base.specs.declared.login.LoginDone.{LoginDone}
 use Rattle.oi_base.specs.declared.memory.NoMemory.{NoMemory}
-use Rattle.oi_drive.proofs.Going.{does_fail, does_makes, does_nothing, does_spent, does_stop, does_then, not_begun, part_followed, part_makes, part_same}
+use Rattle.oi_drive.proofs.Going.{does_fail, does_makes, does_nothing, does_spent, does_stop, does_then, part_makes, part_same}
 use Rattle.oi_drive.specs.Acts.{Does, DoesSilently, IsPart, Turns, aborted, controlled, submitted, turn_line, turned}
-use Rattle.oi_drive.specs.Deeds.{Deed, aborts, aborts_at, cuts, expires, fails, followed, hands_out, hands_out_by, heeds, leaves, live_on, logs_in, loses, makes, nothing, on_link, outcome_lines, refuses, resets, says, submits, takes, ticks, turn_text, turns}
+use Rattle.oi_drive.specs.Deeds.{Deed, aborts, aborts_at, expires, fails, followed, hands_out, hands_out_by, heeds, leaves, live_on, logs_in, loses, makes, nothing, on_link, outcome_lines, refuses, resets, submits, takes, ticks, turn_text, turns}
 use Rattle.oi_drive.specs.declared.answer.Answer.{Answer}
 use Rattle.oi_drive.specs.declared.answer.Answer.TheVariants.{Done, Refused, Outside, Spent}
 use Rattle.oi_history.specs.Handling.{is_idle, is_live, is_spent}
 use Rattle.oi_history.specs.Losses.{is_cause, is_ping_late}
-use Rattle.oi_history.specs.Meanings.{Meanings}
 use Rattle.oi_history.specs.Phases.{has_connection, is_ended, is_logged_in}
 use Rattle.oi_history.specs.Tasks.{due_in, is_done as is_over}
 use Rattle.oi_history.specs.declared.event.Event.{Event}
@@ -26,15 +24,13 @@ use Rattle.oi_history.specs.declared.phase.Handler.TheVariants.{Idle}
 use Rattle.oi_history.specs.declared.config.SessionConfig.{SessionConfig}
 use Rattle.oi_history.specs.declared.phase.LostCause.{LostCause}
 use Rattle.oi_history.specs.declared.phase.LostCause.TheVariants.{Ping, Handler}
-use Rattle.oi_history.specs.declared.phase.Phase.{Phase}
-use Rattle.oi_history.specs.declared.phase.Phase.TheVariants.{LoggedIn, Ended as EndedPhase}
 use Rattle.oi_history.specs.declared.task.Task.{Task}
 use Rattle.oi_pdu.specs.declared.codec.Pdu.{Pdu}
 use Rattle.oi_script.specs.declared.notices.Refusal.TheVariants.{Busy, Ended, Full, NotLoggedIn, LoggedIn as LoggedInAlready, TooLate, Unknown}
 use Rattle.oi_scsi.specs.declared.request.Request.{Request}
-use Rattle.oi_solo.specs.Calls.{Aborts, CanAbort, Controls, Delivers, HandsOut, IsBusy, Leaves, LogsIn, Loses, Receives, Resets, Submits, Ticks, Transmits, login_of, reading_of, received_of, turn_of}
+use Rattle.oi_solo.specs.Calls.{Aborts, CanAbort, Delivers, HandsOut, IsBusy, Leaves, LogsIn, Loses, Receives, Resets, Submits, Ticks, Transmits, login_of, reading_of, received_of, turn_of}
 use Rattle.oi_solo.specs.Limits.{spent_by}
-use Rattle.oi_solo.specs.Sessions.{Session, entered, entered_all, now_of, owed_of, pending_of, sent_bytes}
+use Rattle.oi_solo.specs.Sessions.{Session, entered, now_of, owed_of, pending_of}
 use Rattle.oi_solo.specs.declared.answers.AbortRefused.{AbortRefused}
 use Rattle.oi_solo.specs.declared.answers.AbortRefused.TheVariants as abort
 use Rattle.oi_solo.specs.declared.answers.ControlRefused.{ControlRefused}

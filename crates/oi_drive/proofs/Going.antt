@@ -1,8 +1,8 @@
 -- Deeds one after another.
-use Rattle.std.proofs.Common.{◌≡◌, ◌∙◌, ℕ, suc, zero, Bool, true, false, List, [], ◌∷◌, ◌++◌, Option, Some, None, length, take, sym, ap, subst, refl, append_assoc, append-nil, is_some, Result, Ok, Err, if◌then◌else◌}
+use Rattle.std.proofs.Common.{◌≡◌, ◌∙◌, ℕ, suc, zero, true, false, List, [], ◌∷◌, ◌++◌, Option, Some, None, length, take, sym, ap, subst, refl, append_assoc, append-nil, is_some, Result, Ok, Err, if◌then◌else◌}
 use Rattle.oi_base.specs.declared.memory.NoMemory.{NoMemory}
 use Rattle.oi_drive.specs.Acts.{Does, IsPart}
-use Rattle.oi_drive.specs.Deeds.{Deed, fails, followed, if_done, joined, makes, nothing, says, stops}
+use Rattle.oi_drive.specs.Deeds.{Deed, fails, followed, if_done, joined, makes, nothing, stops}
 use Rattle.oi_drive.specs.declared.answer.Answer.{Answer}
 use Rattle.oi_drive.specs.declared.answer.Answer.TheVariants.{Done, Refused, Outside, Spent}
 use Rattle.oi_history.specs.declared.event.Event.{Event}

@@ -1,9 +1,9 @@
 -- Lines done whole or in part.
-use Rattle.std.proofs.Common.{◌≡◌, ◌⊎◌, inl, inr, ◌∙◌, ◌||◌, ℕ, Bool, List, [], ◌++◌, Option, Some, None, sym, ap, subst, refl, Result, Ok, Err, OnErr}
+use Rattle.std.proofs.Common.{◌≡◌, inl, inr, ◌∙◌, ◌||◌, ℕ, Bool, List, [], Option, Some, None, sym, ap, subst, refl, Result, Ok, Err, OnErr}
 use Rattle.oi_base.specs.declared.memory.NoMemory.{NoMemory}
-use Rattle.oi_drive.proofs.Going.{does_joined, part_all, part_first, part_then}
-use Rattle.oi_drive.specs.Acts.{Does, IsPart}
-use Rattle.oi_drive.specs.Deeds.{Deed, hands_out, joined, says}
+use Rattle.oi_drive.proofs.Going.{does_joined, part_all, part_first}
+use Rattle.oi_drive.specs.Acts.{Does}
+use Rattle.oi_drive.specs.Deeds.{hands_out, says}
 use Rattle.oi_drive.specs.Parts.{IsBetween}
 use Rattle.oi_drive.specs.Steps.{Acts}
 use Rattle.oi_drive.specs.Worlds.{World, acted, base, base_by, begins, deed_of, entries_by, is_end, is_refusal, line_base, line_by, line_deed, line_entries, line_step, one_more, settles, stop_by}

@@ -1,10 +1,9 @@
 -- A line adds the submission that it asks for.
-use Rattle.std.proofs.Common.{◌≡◌, inl, inr, ◌∙◌, ◌==◌, ◌||◌, ◌&&◌, ℕ, suc, zero, Bool, true, false, not, List, [], ◌∷◌, ◌++◌, ◌+◌, Option, Some, None, length, map, replicate, take, sym, ap, subst, refl, append_assoc, append-nil, is_some, nat_le, nat_lt, slice_get, if◌then◌else◌}
+use Rattle.std.proofs.Common.{◌≡◌, inl, inr, ◌∙◌, ◌==◌, ◌||◌, ◌&&◌, ℕ, suc, zero, Bool, true, false, not, List, [], ◌∷◌, ◌++◌, ◌+◌, Option, Some, None, length, map, replicate, take, sym, ap, refl, append_assoc, append-nil, is_some, nat_le, nat_lt, slice_get, if◌then◌else◌}
 use Rattle.std.specs.List.{flat_map}
 use Rattle.oi_base.specs.Limits.{input_limit, line_limit, most_pending}
 use Rattle.oi_base.specs.declared.tag.Tag.{Tag}
-use Rattle.oi_drive.specs.Acts.{IsPart}
-use Rattle.oi_drive.specs.Deeds.{Deed, aborts_at, cuts, ends_stream, expires, fails, followed, hands_out, hands_out_by, heeds, if_done as follows, if_sent, joined, leaves, live_on, logs_in, loses, makes, nothing, on_link, outcome_lines, receives, refuses, resets, says, sends, submits, takes, takes_all, ticks, turn_text, turns, due_of_session}
+use Rattle.oi_drive.specs.Deeds.{Deed, aborts_at, cuts, ends_stream, expires, fails, followed, hands_out, hands_out_by, heeds, if_done as follows, if_sent, joined, leaves, live_on, logs_in, loses, makes, nothing, on_link, outcome_lines, refuses, resets, sends, submits, takes, takes_all, ticks, turn_text, turns, due_of_session}
 use Rattle.oi_drive.specs.Endings.{IsEndedBy, terminated}
 use Rattle.oi_drive.specs.Parts.{IsBetween}
 use Rattle.oi_drive.specs.Requests.{asked_by, byte_request, end_request, fed_requests, if_done, input_requests, line_request, request_by, request_of, requests_in}
@@ -51,7 +50,6 @@ use Rattle.oi_solo.specs.declared.answers.Received.{Received}
 use Rattle.oi_solo.specs.declared.answers.Received.TheVariants as received
 use Rattle.oi_history.specs.declared.rule.Rule.{Rule}
 use Rattle.oi_stream.specs.Bytewise.{fed}
-use Rattle.oi_stream.specs.Feeding.{State}
 use Rattle.oi_timers.specs.Ping.{ping_due}
 use Rattle.oi_window.specs.Numbering.{is_open, next_of}
 
@@ -528,6 +526,8 @@ pub broken_asks : (w : World) (fed : List ℕ) (cause : Cause) (now session : Se
     → (count : ℕ) × (asked session ≡ fed_requests w fed ++ take count (line_request (feed w fed)))
 broken_asks w fed cause now session none part ended =
     let first = fed_asks w fed (λ off. none) in
-    let p = part_asks (feed w fed) now first.fresh part in
-    (p.0, ended_none cause now session ended ∙ (p.1 ∙ ap (λ (z : List Request). z ++ take p.0 (line_request (feed w fed)))
-    (first.asks ∙ ap (λ (z : List Request). z ++ fed_requests w fed) (ap requests_in none))))
+    let p = part_asks (feed w fed) now first.fresh part in (
+      p.0,
+      ended_none cause now session ended ∙ (p.1 ∙ ap (λ (z : List Request). z ++ take p.0 (line_request (feed w fed)))
+          (first.asks ∙ ap (λ (z : List Request). z ++ fed_requests w fed) (ap requests_in none))),
+    )

@@ -1,11 +1,11 @@
 -- Deeds in a loop.
-use Rattle.std.proofs.Common.{◌≡◌, ◌∙◌, ◌<◌, ◌+◌, ◌-◌, ℕ, suc, zero, Bool, true, false, List, [], ◌∷◌, ◌++◌, Option, Some, None, length, take, drop, sym, ap, subst, refl, arith, append_assoc, append-nil, Result, Ok, Err}
+use Rattle.std.proofs.Common.{◌≡◌, ◌∙◌, ◌<◌, ◌+◌, ◌-◌, ℕ, suc, true, List, [], ◌∷◌, ◌++◌, Option, Some, None, sym, ap, subst, refl, arith, append_assoc, append-nil, Result, Ok, Err}
 use Rattle.oi_base.specs.declared.memory.NoMemory.{NoMemory}
-use Rattle.oi_drive.proofs.Going.{does_joined, does_nothing, does_stop, does_then, entered-append, part_followed}
-use Rattle.oi_drive.specs.Acts.{Does, IsPart, Turns}
+use Rattle.oi_drive.proofs.Going.{does_joined, does_nothing, does_stop, entered-append, part_followed}
+use Rattle.oi_drive.specs.Acts.{Does, Turns}
 use Rattle.oi_drive.specs.Deeds.{Deed, followed, if_done, if_sent, joined, live_on, nothing, on_link, sends, stops, takes, takes_all, turns}
 use Rattle.oi_drive.specs.declared.answer.Answer.{Answer}
-use Rattle.oi_drive.specs.declared.answer.Answer.TheVariants.{Done, Refused, Outside, Spent}
+use Rattle.oi_drive.specs.declared.answer.Answer.TheVariants.{Done, Spent}
 use Rattle.oi_drive.specs.declared.answer.Turn.TheVariants as turn
 use Rattle.oi_history.specs.declared.event.Event.{Event}
 use Rattle.oi_pdu.specs.declared.codec.Pdu.{Pdu}
@@ -28,7 +28,6 @@ pub rest_done : (whole rest : Deed) (first now new : Session) (before mid after 
 rest_done whole rest first now new before mid after r u h =
     subst (λ (d : Deed). Does d first before r new after) (sym u.is)
     (does_joined (record { entries = u.entries; text = u.text; answer = Done }) rest first now new before mid after r u.session u.wrote h)
-
 
 -- one more deed of it is done
 pub more_done : (whole d : Deed) (f : Session → Deed) (first now new : Session) (before mid after : List ℕ) → IsUnderWay whole (followed now d f) first now before mid

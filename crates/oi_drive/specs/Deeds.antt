@@ -8,7 +8,6 @@ use Rattle.oi_drive.specs.declared.answer.Answer.{Answer}
 use Rattle.oi_drive.specs.declared.answer.Answer.TheVariants.{Done, Refused, Outside, Spent}
 use Rattle.oi_history.specs.Handling.{is_idle, is_live, is_spent}
 use Rattle.oi_history.specs.Losses.{is_cause, is_ping_late}
-use Rattle.oi_history.specs.Meanings.{Meanings}
 use Rattle.oi_history.specs.Phases.{has_connection, is_ended, is_logged_in}
 use Rattle.oi_history.specs.Tasks.{due_in, is_done as is_over}
 use Rattle.oi_history.specs.declared.event.Event.{Event}

@@ -5,7 +5,7 @@ use Rattle.oi_drive.specs.declared.runner.Broken.{Broken}
 use Rattle.oi_drive.specs.declared.runner.Broken.TheVariants.{Memory, Read, Write}
 use Rattle.oi_drive.specs.Parts.{BrokeOff, IsFront}
 use Rattle.oi_drive.specs.Requests.{fed_requests, input_requests, line_request, requests_in}
-use Rattle.oi_drive.specs.Deeds.{Deed, hands_out}
+use Rattle.oi_drive.specs.Deeds.{hands_out}
 use Rattle.oi_drive.specs.Worlds.{World, feed, input_text, input_world, one_more, unused}
 use Rattle.oi_drive.specs.declared.runner.Stop.{Stop}
 use Rattle.oi_drive.specs.declared.runner.Stop.TheVariants.{Asked, InputEnd, BadLine, Full}

@@ -1,5 +1,5 @@
 -- What a link makes of a piece: the PDUs that became whole, and why its stream ends behind them.
-use Rattle.std.specs.Prelude.{◌≡◌, ℕ, List, Option, Some, None, Result, Ok, Err}
+use Rattle.std.specs.Prelude.{◌≡◌, ℕ, List, Some, None, Result, Ok, Err}
 use Rattle.oi_base.specs.declared.memory.NoMemory.{NoMemory}
 use Rattle.oi_drive.specs.Worlds.{Link, fault_of, goes_on}
 use Rattle.oi_drive.specs.declared.link.Piece.{Piece}

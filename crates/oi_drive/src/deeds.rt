@@ -88,7 +88,12 @@ pub fn submit(solo: &mut Solo, request: Request) -> Result<Answer, NoMemory>
 
 /// A connection reached the full feature phase.
 #[tactic(auto, using(crate::proofs::Calls::login_done, crate::proofs::Calls::login_part, crate::proofs::Calls::login_ended, crate::proofs::Calls::login_twice, crate::proofs::Calls::login_spent))]
-pub fn login(solo: &mut Solo, alloc: Global, done: LoginDone, out: &mut Vec<u8>) -> Result<Answer, NoMemory>
+pub fn login(
+    solo: &mut Solo,
+    alloc: Global,
+    done: LoginDone,
+    out: &mut Vec<u8>,
+) -> Result<Answer, NoMemory>
     requires { 1 ≤ done.params.max_send }
     ensures { Does (logs_in done solo.old) solo.old out.old.items result solo.new out.new.items }
 {
@@ -118,12 +123,7 @@ fn turned(done: Result<Transmit, StepRefused>) -> Result<Turn, NoMemory>
 }
 
 // The line of a transmission.
-fn turn_line(
-    alloc: Global,
-    turn: Turn,
-    generation: u64,
-    bytes: &[u8],
-) -> Result<Blob, NoMemory>
+fn turn_line(alloc: Global, turn: Turn, generation: u64, bytes: &[u8]) -> Result<Blob, NoMemory>
     ensures { IfOk result (λ text. text ≡ turn_line turn generation bytes.now) }
 {
     match turn {
@@ -324,12 +324,7 @@ fn expire(
 }
 
 /// The clock reads so many milliseconds.
-pub fn tick(
-    solo: &mut Solo,
-    alloc: Global,
-    now: u64,
-    out: &mut Vec<u8>,
-) -> Result<Answer, NoMemory>
+pub fn tick(solo: &mut Solo, alloc: Global, now: u64, out: &mut Vec<u8>) -> Result<Answer, NoMemory>
     requires { now < 2 ^ 53 }
     ensures { Does (ticks now solo.old) solo.old out.old.items result solo.new out.new.items }
 {
@@ -405,11 +400,6 @@ pub fn show_window(solo: &Solo, alloc: Global, out: &mut Vec<u8>) -> Result<Answ
     ensures { Does (shows_window solo.now) solo.now out.old.items result solo.now out.new.items }
 {
     let window = solo.window();
-    let text = window_line(
-        alloc,
-        window.next().0,
-        window.expected().0,
-        window.max().0,
-    );
+    let text = window_line(alloc, window.next().0, window.expected().0, window.max().0);
     say(out, text)
 }

@@ -155,7 +155,11 @@ fn put_out<K: Sink>(sink: &mut K, text: &[u8], status: u8) -> u8
 {
     match write_and_flush(sink, text) {
         Ok(()) => status,
-        Err(_) => if status == 0 || status == 35 { 31 } else { status },
+        Err(_) => if status == 0 || status == 35 {
+            31
+        } else {
+            status
+        },
     }
 }
 

@@ -4,7 +4,7 @@ use Rattle.oi_base.specs.Counts.{Rose}
 use Rattle.oi_drive.specs.Parts.{IsFront}
 use Rattle.oi_outside.specs.Streams.{behind}
 use Rattle.oi_script.specs.Numbers.{is_text}
-use Rattle.oi_session.specs.Sessions.{RunView}
+use Rattle.oi_solo.specs.Sessions.{RunView}
 
 -- the word of the mode `drive`
 abbrev pub is_drive : {Z : Type 0} → List (String Z) → Bool

@@ -1,7 +1,7 @@
-use Rattle.std.proofs.Common.{◌≡◌, ◌∷◌, [], ◌∙◌, List, ap, arith, length, refl, rules, subst, sym}
+use Rattle.std.proofs.Common.{◌≡◌, ◌∷◌, [], ◌∙◌, List, arith, length, refl, rules, subst, sym}
 use Rattle.oi_drive.proofs.Going.{does_on}
 use Rattle.oi_drive.proofs.Sendings.{IsUnderWay, begun, taking_broke, taking_more, taking_over, taking_stopped}
-use Rattle.oi_drive.specs.Deeds.{Deed, takes, takes_all}
+use Rattle.oi_drive.specs.Deeds.{takes, takes_all}
 use Rattle.oi_pdu.specs.declared.codec.Pdu.{Pdu}
 use Rattle.oi_drive.proofs.deeds.take_all.Goals as goal
 

@@ -1,4 +1,4 @@
-use Rattle.std.proofs.Common.{ap, ◌||◌, ◌∙◌, Bool, Option, ℕ}
+use Rattle.std.proofs.Common.{ap, ◌||◌, ◌∙◌, Bool}
 use Rattle.oi_drive.proofs.Parts.{line_done, own_broke, rest_failed}
 use Rattle.oi_drive.specs.Runs.{seen}
 use Rattle.oi_drive.specs.Worlds.{stop_by}

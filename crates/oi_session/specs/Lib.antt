@@ -1,4 +1,0 @@
-pub mod Sessions
-pub mod Calls
-pub mod Cores
-pub mod Plans
