@@ -4,12 +4,12 @@ use Rattle.oi_drive.proofs.Outputs.{behind-append, behind_none}
 use Rattle.oi_drive.proofs.Parts.{nothing_done, whole_step}
 use Rattle.oi_drive.proofs.Readings.{IsFed, feed-append, feed_text-append}
 use Rattle.oi_drive.specs.Inputs.{BreaksBy}
-use Rattle.oi_drive.specs.Parts.{BrokeIn, BrokeOff, IsBetween, IsFront, IsPartly}
+use Rattle.oi_drive.specs.Parts.{BrokeIn, BrokeOff, IsBetween, IsPartly}
 use Rattle.oi_drive.specs.Worlds.{World, feed, feed_text, line_base, line_entries, line_step, line_text}
 use Rattle.oi_drive.specs.Writes.{Counts, Prints}
 use Rattle.oi_drive.specs.declared.runner.Broken.{Broken}
 use Rattle.oi_drive.specs.declared.runner.Broken.TheVariants.{Memory, Read, Write}
-use Rattle.oi_outside.specs.Streams.{behind, in_front}
+use Rattle.oi_outside.specs.Streams.{IsFront, behind, in_front}
 
 pub no_text : (text : List ℕ) (held : Option (List ℕ)) → IsFront text held held
 no_text text held = record { count = 0; is = sym (behind_none held) }

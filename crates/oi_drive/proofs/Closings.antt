@@ -3,7 +3,7 @@ use Rattle.std.proofs.Common.{◌≡◌, ◌∙◌, ◌⊎◌, inl, inr, ◌==�
 use Rattle.oi_base.specs.Counts.{Rose}
 use Rattle.oi_base.specs.Limits.{input_limit}
 use Rattle.oi_drive.proofs.Outputs.{behind-append}
-use Rattle.oi_drive.specs.Parts.{BrokeOff, IsFront}
+use Rattle.oi_drive.specs.Parts.{BrokeOff}
 use Rattle.oi_drive.proofs.Requests.{broken_asks, whole_asks}
 use Rattle.oi_history.specs.declared.phase.End.TheVariants.{Stopped}
 use Rattle.oi_drive.specs.Endings.{Closes, ClosesBroken, ClosesPartly, FailedBy, HasCause, IsDrive, IsEndedBy, IsLeft, broken_status, cause_of, closed_by, closing_text, drive_world, first_world, status_of, stop_text, terminated}
@@ -20,7 +20,7 @@ use Rattle.oi_history.specs.declared.phase.End.{End}
 use Rattle.oi_solo.specs.Limits.{spent_by}
 use Rattle.oi_drive.specs.declared.runner.Broken.{Broken}
 use Rattle.oi_drive.specs.declared.runner.Broken.TheVariants.{Memory, Read, Write}
-use Rattle.oi_outside.specs.Streams.{behind}
+use Rattle.oi_outside.specs.Streams.{IsFront, behind}
 use Rattle.oi_solo.specs.Sessions.{Session, entered_all, now_of, run_of}
 
 abbrev last_text : World → List ℕ

@@ -3,7 +3,7 @@ use Rattle.std.specs.Prelude.{◌≡◌, ◌⊎◌, ℕ, Bool, false, true, ◌+
 use Rattle.oi_base.specs.Counts.{Rose}
 use Rattle.oi_drive.specs.declared.runner.Broken.{Broken}
 use Rattle.oi_drive.specs.declared.runner.Broken.TheVariants.{Memory, Read, Write}
-use Rattle.oi_drive.specs.Parts.{BrokeOff, IsFront}
+use Rattle.oi_drive.specs.Parts.{BrokeOff}
 use Rattle.oi_drive.specs.Requests.{fed_requests, input_requests, line_request, requests_in}
 use Rattle.oi_drive.specs.Deeds.{hands_out}
 use Rattle.oi_drive.specs.Worlds.{World, feed, input_text, input_world, one_more, unused}
@@ -15,7 +15,7 @@ use Rattle.oi_history.specs.declared.config.SessionConfig.{SessionConfig}
 use Rattle.oi_history.specs.declared.event.Event.TheVariants.{Terminate}
 use Rattle.oi_history.specs.declared.phase.End.{End}
 use Rattle.oi_history.specs.declared.phase.End.TheVariants.{Asked as ByLine, InputEnd as ByInput, Stopped}
-use Rattle.oi_outside.specs.Streams.{behind}
+use Rattle.oi_outside.specs.Streams.{IsFront, behind}
 use Rattle.oi_script.specs.Printed.{fault_text}
 use Rattle.oi_solo.specs.Sessions.{RunView, Session, entered, entered_all, now_of, run_of}
 

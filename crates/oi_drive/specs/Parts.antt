@@ -5,17 +5,12 @@ use Rattle.oi_drive.specs.Worlds.{World, feed, feed_text, line_base, line_entrie
 use Rattle.oi_drive.specs.declared.runner.Broken.{Broken}
 use Rattle.oi_drive.specs.declared.runner.Broken.TheVariants.{Read}
 use Rattle.oi_history.specs.declared.event.Event.{Event}
-use Rattle.oi_outside.specs.Streams.{behind, in_front}
+use Rattle.oi_outside.specs.Streams.{IsFront, behind, in_front}
 use Rattle.oi_solo.specs.Sessions.{Session}
 
 -- a session is where it was, or behind a first part of these entries
 abbrev pub IsBetween : Session → Session → List Event → Session → Type 0
 IsBetween old first es now = (now ≡ old) ⊎ IsPart es first now
-
--- a front of the text was taken
-pub record IsFront (text : List ℕ) (held0 held : Option (List ℕ)) : Type 0 where
-  pub count : ℕ
-  pub is : held ≡ behind held0 (take count text)
 
 -- the line that has ended was done in part
 pub record IsPartly (w v : World) (held0 held : Option (List ℕ)) : Type 0 where

@@ -1,10 +1,9 @@
 -- What a step that prints leaves: the sink with its text, or why it broke.
 use Rattle.std.specs.Prelude.{◌≡◌, ℕ, List, Option, Result, Ok, Err}
 use Rattle.oi_base.specs.Counts.{Rose}
-use Rattle.oi_drive.specs.Parts.{IsFront}
 use Rattle.oi_drive.specs.declared.runner.Broken.{Broken}
 use Rattle.oi_drive.specs.declared.runner.Broken.TheVariants.{Memory, Read, Write}
-use Rattle.oi_outside.specs.Streams.{behind}
+use Rattle.oi_outside.specs.Streams.{IsFront, behind}
 
 abbrev pub Prints : Result (Unit {0}) Broken → List ℕ → Option (List ℕ) → Option (List ℕ) → ℕ → ℕ → Type 0
 Prints (Ok u) text held0 held faults0 faults = (held ≡ behind held0 text) × (faults ≡ faults0)

@@ -3,6 +3,8 @@
 
 mod acting;
 mod answer;
+#[cfg(test)]
+mod cases;
 mod deeds;
 mod ended;
 mod handing;
@@ -16,4 +18,3 @@ mod tests;
 mod writing;
 
 pub use ended::{Ended, drive_main};
-pub use writing::write_all;

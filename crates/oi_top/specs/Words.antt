@@ -1,8 +1,7 @@
 -- The words of the program.
 use Rattle.std.specs.Prelude.{◌≡◌, ℕ, Bool, true, false, List, [], ◌∷◌, map, Option, String, codes, drop, string_bytes}
 use Rattle.oi_base.specs.Counts.{Rose}
-use Rattle.oi_drive.specs.Parts.{IsFront}
-use Rattle.oi_outside.specs.Streams.{behind}
+use Rattle.oi_outside.specs.Streams.{IsFront, behind}
 use Rattle.oi_script.specs.Numbers.{is_text}
 use Rattle.oi_solo.specs.Sessions.{RunView}
 

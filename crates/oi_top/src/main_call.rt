@@ -2,16 +2,15 @@ ghost use Rattle.std.specs.Prelude.{◌≡◌, length, ℕ, List, [], Some, OnOk
 ghost use Rattle.oi_base.specs.Counts.{Rose};
 ghost use Rattle.oi_drive.specs.Answered.{AreAnswered, AreOnce};
 ghost use Rattle.oi_drive.specs.Endings.{AreEnded, AreLeft, HasCause, IsDrive};
-ghost use Rattle.oi_drive.specs.Parts.{IsFront};
-ghost use Rattle.oi_outside.specs.Streams.{IsCounted, behind};
+ghost use Rattle.oi_outside.specs.Streams.{IsCounted, IsFront, behind};
 ghost use Rattle.oi_tool.specs.Asking.{AreRefused};
 ghost use Rattle.oi_tool.specs.Runs.{IsTool};
 ghost use Rattle.oi_top.specs.Words.{IsRefused, is_drive, is_tool, tool_words};
 
 use crate::tool_call::call_tool;
 use oi_base::Series;
-use oi_drive::{Ended, drive_main, write_all};
-use oi_outside::{Failed, RecordStore, Sink, Source};
+use oi_drive::{Ended, drive_main};
+use oi_outside::{Failed, RecordStore, Sink, Source, write_all};
 use std::alloc::Global;
 
 fn is_drive(words: &[String]) -> bool
