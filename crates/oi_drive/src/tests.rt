@@ -1,11 +1,14 @@
 use super::*;
-use crate::cases::CASES;
+use crate::cases::{Case, FIRST, FOURTH, LONG, SECOND, THIRD};
 use md5::{Digest, Md5};
 use oi_base::{Blob, Series};
 use oi_outside::{MemSink, MemSource};
 use std::alloc::Global;
 use std::process::Abort;
 use std::test::Fail;
+
+// No worked case prints more.
+const ROOM: u32 = 1_048_576;
 
 fn numbers(alloc: Global, all: &[u64]) -> Result<Series<u64>, Fail> {
     let mut list = Vec::new(alloc);
@@ -22,7 +25,7 @@ fn replay(
 ) -> Result<(u8, Blob), Fail> {
     let bytes = Blob::from_slice(alloc, input)?;
     let mut source = MemSource::new(bytes, numbers(alloc, source_fails)?);
-    let mut sink = MemSink::new(alloc, 4096, numbers(alloc, sink_fails)?)?;
+    let mut sink = MemSink::new(alloc, ROOM, numbers(alloc, sink_fails)?)?;
     let ended = drive_main(alloc, &mut source, &mut sink);
     Ok((ended.status, Blob::from_slice(alloc, sink.held())?))
 }
@@ -34,8 +37,8 @@ static FAILING: [(&[u8], &[u64], &[u64], u8, &[u8]); 7] = [
     (b"end\nread 0\n", &[], &[], 0, b""),
     (b"end \n", &[], &[], 7, b"fault 7 1\n"),
     (b"", &[0], &[], 30, b"fault 30 1\n"),
-    (b"window\n", &[1], &[], 30, b"window 1 1 0\nfault 30 2\n"),
-    (b"window\n", &[], &[0], 31, b""),
+    (b"login 1 32 5\n", &[1], &[], 30, b"login 1\nfault 30 2\n"),
+    (b"login 1 32 5\n", &[], &[0], 31, b""),
 ];
 
 #[test]
@@ -48,13 +51,58 @@ fn failing_calls(rt: HostRuntime) -> Result<(), Fail> {
     Ok(())
 }
 
+// The input gives this status, and a text with this MD5.
+fn gives(
+    rt: &impl Abort,
+    alloc: Global,
+    input: &[u8],
+    status: u8,
+    wanted: &str,
+) -> Result<(), Fail> {
+    let (found, text) = replay(alloc, input, &[], &[])?;
+    assert_eq!(rt; found, status);
+    let digest = hex::encode(alloc, Md5::digest(text.as_slice()).as_slice())?;
+    assert_eq!(rt; digest.as_bytes(), wanted.as_bytes());
+    Ok(())
+}
+
+fn give(rt: &impl Abort, alloc: Global, cases: &[Case]) -> Result<(), Fail> {
+    for case in cases {
+        gives(rt, alloc, case.input, case.status, case.text)?;
+    }
+    Ok(())
+}
+
 #[test]
-fn worked_cases(rt: HostRuntime) -> Result<(), Fail> {
-    for case in &CASES {
-        let (status, text) = replay(rt.alloc(), case.input, &[], &[])?;
-        assert_eq!(rt; status, case.status);
-        let digest = hex::encode(rt.alloc(), Md5::digest(text.as_slice()).as_slice())?;
-        assert_eq!(rt; digest.as_bytes(), case.text.as_bytes());
+fn worked_cases_1(rt: HostRuntime) -> Result<(), Fail> {
+    give(&rt, rt.alloc(), &FIRST)
+}
+
+#[test]
+fn worked_cases_2(rt: HostRuntime) -> Result<(), Fail> {
+    give(&rt, rt.alloc(), &SECOND)
+}
+
+#[test]
+fn worked_cases_3(rt: HostRuntime) -> Result<(), Fail> {
+    give(&rt, rt.alloc(), &THIRD)
+}
+
+#[test]
+fn worked_cases_4(rt: HostRuntime) -> Result<(), Fail> {
+    give(&rt, rt.alloc(), &FOURTH)
+}
+
+#[test]
+fn long_cases(rt: HostRuntime) -> Result<(), Fail> {
+    for case in &LONG {
+        let mut input = Vec::new(rt.alloc());
+        input.extend_from_slice(case.front)?;
+        for _i in 0..case.count {
+            input.extend_from_slice(case.part)?;
+        }
+        input.extend_from_slice(case.back)?;
+        gives(&rt, rt.alloc(), &input, case.status, case.text)?;
     }
     Ok(())
 }
