@@ -106,3 +106,86 @@ fn long_cases(rt: HostRuntime) -> Result<(), Fail> {
     }
     Ok(())
 }
+
+// The next of a row of numbers without an order.
+fn next(seed: &mut u32) -> u32 {
+    *seed = seed.wrapping_mul(1_664_525).wrapping_add(1_013_904_223);
+    *seed / 65_536
+}
+
+const DIGITS: &[u8; 16] = b"0123456789abcdef";
+
+fn put_hex(out: &mut Vec<u8>, n: u32) -> Result<(), Fail> {
+    for b in n.to_be_bytes() {
+        out.push(DIGITS[usize::from(b / 16)])?;
+        out.push(DIGITS[usize::from(b % 16)])?;
+    }
+    Ok(())
+}
+
+// Kinds of replies: the first eight bytes, the target transfer tag or SNACK tag, the data.
+static REPLIES: [(&[u8], &[u8], &[u8]); 4] = [
+    (b"2581000000000008", b"ffffffff", b"000003ff00000200"),
+    (b"2180000000000000", b"00000000", b""),
+    (b"2180000200000000", b"00000000", b""),
+    (b"2180010000000000", b"00000000", b""),
+];
+
+// A reply to the command with this number, as hexadecimal digits.
+fn put_reply(out: &mut Vec<u8>, kind: usize, k: u32) -> Result<(), Fail> {
+    let (front, tag, data) = REPLIES[kind % 4];
+    out.extend_from_slice(front)?;
+    out.extend_from_slice(b"0000000000000000")?;
+    put_hex(out, k % 3)?;
+    out.extend_from_slice(tag)?;
+    put_hex(out, 5 + k % 3)?;
+    out.extend_from_slice(b"0000000400000023000000000000000000000000")?;
+    out.extend_from_slice(data)?;
+    Ok(())
+}
+
+fn put_lines(script: &mut Vec<u8>, stream: &[u8], most: usize) -> Result<(), Fail> {
+    for piece in stream.chunks(most.max(1)) {
+        script.extend_from_slice(b"recv 1 ")?;
+        script.extend_from_slice(piece)?;
+        script.push(b'\n')?;
+    }
+    Ok(())
+}
+
+const FRONT: &[u8] = b"login 1 32 5\ncapacity 0\ncapacity 0\ncapacity 0\nsend 4\n";
+
+// Three commands and their replies, at times with bytes behind them that are no PDU: with each PDU in a line of its own, and
+// in pieces of another length.
+fn scripts(alloc: Global, seed: &mut u32) -> Result<(Vec<u8>, Vec<u8>), Fail> {
+    let mut stream = Vec::new(alloc);
+    let mut whole = Vec::new(alloc);
+    let mut cut = Vec::new(alloc);
+    whole.extend_from_slice(FRONT)?;
+    cut.extend_from_slice(FRONT)?;
+    for k in 0..4u32 {
+        let mut pdu = Vec::new(alloc);
+        if k < 3 {
+            put_reply(&mut pdu, next(seed) as usize, k)?;
+        } else if next(seed) % 4 == 0 {
+            pdu.extend_from_slice(&[b'f'; 96])?;
+        }
+        put_lines(&mut whole, &pdu, 112)?;
+        stream.extend_from_slice(&pdu)?;
+    }
+    put_lines(&mut cut, &stream, 2 + 2 * (next(seed) % 40) as usize)?;
+    Ok((whole, cut))
+}
+
+#[test]
+fn the_same_bytes_in_other_pieces(rt: HostRuntime) -> Result<(), Fail> {
+    let mut seed = 1;
+    for _i in 0..200 {
+        let (whole, cut) = scripts(rt.alloc(), &mut seed)?;
+        let (status, text) = replay(rt.alloc(), &whole, &[], &[])?;
+        let (same, again) = replay(rt.alloc(), &cut, &[], &[])?;
+        assert_eq!(rt; status, same);
+        assert_eq!(rt; text.as_slice(), again.as_slice());
+    }
+    Ok(())
+}
