@@ -16,24 +16,21 @@ script() {
   }'
 }
 
-# Milliseconds of so many runs.
+# Microseconds of processor time of so many runs.
 run() {
-  local start end
-  start=$(date +%s%N)
-  for ((i = 0; i < $2; i++)); do "$program" drive < "$1" > "$folder/out"; done
-  end=$(date +%s%N)
-  echo $(((end - start) / 1000))
+  TIMEFORMAT='%3U %3S'
+  { time for ((i = 0; i < $2; i++)); do "$program" drive < "$1" > "$folder/out"; done; } 2>&1 | awk '{ print ($1 + $2) * 1e6 }'
 }
 
 script 0 > "$folder/none"
 script 333 > "$folder/short"
 script 33333 > "$folder/long"
-none=$(run "$folder/none" 100)
-short=$(run "$folder/short" 100)
-long=$(run "$folder/long" 1)
+none=$(run "$folder/none" 400)
+short=$(run "$folder/short" 400)
+long=$(run "$folder/long" 4)
 grep -c '^done .* 00 0 - 8:' "$folder/out" | sed 's/$/ answers of 33333/'
-# microseconds a run, without what a run of no exchange takes
+# what a run without exchanges takes does not count
 awk -v none="$none" -v short="$short" -v long="$long" 'BEGIN {
-  a = (short - none) / 100 / 999; b = (long - none / 100) / 99999
+  a = (short - none) / 400 / 999; b = (long / 4 - none / 400) / 99999
   printf "1,000 lines: %.3f us a line, %d lines a second\n100,000 lines: %.3f us a line, %d lines a second\nratio %.2f\n", a, 1e6 / a, b, 1e6 / b, b / a
 }'
