@@ -1,6 +1,6 @@
 -- The data of a command for the initiator (RFC 7143, section 11.7): sequences of at most MaxBurstLength, each in pieces of
 -- at most the length that the initiator declared. The numbers run on over all sequences.
-use Rattle.std.specs.Prelude.{ℕ, zero, suc, ◌≤◌, ◌<◌, ◌+◌, ◌-◌, ◌%◌, ◌^◌, Bool, false, ◌||◌, List, [], ◌∷◌, length, min, take, drop, ◌==◌, if◌then◌else◌}
+use Rattle.std.specs.Prelude.{ℕ, zero, suc, ◌≤◌, ◌<◌, ◌+◌, ◌-◌, ◌%◌, ◌^◌, Bool, false, ◌||◌, List, [], ◌∷◌, length, max, min, take, drop, ◌==◌, if◌then◌else◌}
 use Rattle.oi_base.specs.Serials.{successor}
 use Rattle.oi_base.specs.declared.tag.Tag.{Tag}
 use Rattle.oi_pdu.specs.declared.codec.Pdu.{Pdu}
@@ -15,6 +15,10 @@ pub record AreLimits (l : Limits) : Type 0 where
   pub some : 1 ≤ l.max_send
   pub most : l.max_send < 2 ^ 24
   pub burst : 1 ≤ l.max_burst
+
+-- the same lengths, brought within these bounds
+abbrev pub usable : Limits → Limits
+usable l = record { max_send = min (max l.max_send 1) 16777215; max_burst = max l.max_burst 1; first_burst = l.first_burst }
 
 -- the size of the piece that begins at a place, with so many bytes left
 abbrev pub piece_size : Limits → ℕ → ℕ → ℕ

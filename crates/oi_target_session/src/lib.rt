@@ -12,6 +12,7 @@ mod place;
 mod reset;
 mod session;
 mod task;
+mod text;
 
 pub use arrive::{receive, receive_all};
 pub use fed::Fed;

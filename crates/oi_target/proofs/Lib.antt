@@ -1,0 +1,11 @@
+pub mod Bared
+pub mod Changes
+pub mod Courses
+pub mod Framed
+pub mod Joins
+pub mod Linked
+pub mod Numbered
+pub mod Places
+pub mod Served
+pub mod Shown
+pub mod Walked

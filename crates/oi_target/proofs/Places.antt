@@ -1,0 +1,44 @@
+-- A connection among all.
+use Rattle.std.proofs.Common.{ℕ, zero, suc, Bool, true, false, not, cond, ◌≡◌, ◌∙◌, ◌<◌, ◌≤◌, ◌+◌, Option, Some, None, List, [], ◌∷◌, ◌++◌, length, refl, ap, arith, if◌then◌else◌, ◌==◌}
+use Rattle.std.specs.List.{prefix_len, remove}
+use Rattle.std.specs.Prelude.{slice_index_or}
+use Rattle.oi_target.specs.Targets.{is_other, link_of, without}
+use Rattle.oi_target.specs.declared.link.Link.{Link}
+
+-- what is at the place of a connection
+pub record IsPlace (n : ℕ) (ls : List Link) (at : ℕ) (d : Link) : Type 0 where
+  pub link : link_of n ls ≡ Some (slice_index_or ls at d)
+  pub others : without n ls ≡ remove ls at
+
+at_link : (b : Bool) (n : ℕ) (l : Link) (ls : List Link) (at : ℕ) (d : Link) → (l.number == n) ≡ b → at ≡ cond (not b) (1 + prefix_len (is_other n) ls) 0
+    → at < length (l ∷ ls) → ((k : ℕ) → k ≡ prefix_len (is_other n) ls → k < length ls → IsPlace n ls k d) → IsPlace n (l ∷ ls) at d
+at_link true n l ls zero d is place within more = record {
+  link = ap (λ (b : Bool). if b then Some l else link_of n ls) is;
+  others = ap (λ (b : Bool). if b then ls else l ∷ without n ls) is;
+}
+at_link true n l ls (suc k) d is place within more = absurd (omega arith)
+at_link false n l ls zero d is place within more = absurd (omega arith)
+at_link false n l ls (suc k) d is place within more =
+    let rest = more k (omega arith) (omega arith) in
+    record {
+      link = ap (λ (b : Bool). if b then Some l else link_of n ls) is ∙ rest.link;
+      others = ap (λ (b : Bool). if b then ls else l ∷ without n ls) is ∙ ap (λ (z : List Link). l ∷ z) rest.others;
+    }
+
+pub one_of : (n : ℕ) (ls : List Link) (at : ℕ) (d : Link) → at ≡ prefix_len (is_other n) ls → at < length ls → IsPlace n ls at d
+one_of n [] at d is within = absurd (omega arith)
+one_of n (l ∷ ls) at d is within =
+    at_link (l.number == n) n l ls at d refl is within (λ k place inside. one_of n ls k d place inside)
+
+past_link : (b : Bool) (n : ℕ) (l : Link) (ls : List Link) → (l.number == n) ≡ b → length (l ∷ ls) ≤ cond (not b) (1 + prefix_len (is_other n) ls) 0
+    → (length ls ≤ prefix_len (is_other n) ls → (link_of n ls ≡ None) × (without n ls ≡ ls)) → (link_of n (l ∷ ls) ≡ None) × (without n (l ∷ ls) ≡ l ∷ ls)
+past_link true n l ls is past more = absurd (omega arith)
+past_link false n l ls is past more =
+    let rest = more (omega arith) in (
+      ap (λ (b : Bool). if b then Some l else link_of n ls) is ∙ rest.0,
+      ap (λ (b : Bool). if b then ls else l ∷ without n ls) is ∙ ap (λ (z : List Link). l ∷ z) rest.1,
+    )
+
+pub none_of : (n : ℕ) (ls : List Link) → length ls ≤ prefix_len (is_other n) ls → (link_of n ls ≡ None) × (without n ls ≡ ls)
+none_of n [] past = (refl, refl)
+none_of n (l ∷ ls) past = past_link (l.number == n) n l ls refl past (λ inside. none_of n ls inside)
