@@ -1,11 +1,12 @@
--- What a target does asks for no bytes of other connections, and for none of this one but its PDUs.
-use Rattle.std.proofs.Common.{ℕ, Bool, true, false, ◌≡◌, ◌∙◌, Option, Some, None, List, [], ◌∷◌, ◌++◌, Ok, map, refl, ap, sym, append-nil, if◌then◌else◌, ◌==◌}
+-- What a target does asks for no bytes of its connections, and for none that was ended.
+use Rattle.std.proofs.Common.{ℕ, ◌≡◌, ◌∙◌, Some, List, [], ◌∷◌, map, refl, ap, sym}
 use Rattle.oi_pdu.specs.declared.codec.Pdu.{Pdu}
 use Rattle.oi_stream.specs.Feeding.{State}
-use Rattle.oi_target.specs.Events.{CallsAreEvents, Came, Event, FeedsAreEvents, Happened, IsOn, Joined, Left, Touched, bare, bare_link, came, happened, happens, no_bytes, touched, touched_step}
-use Rattle.oi_target.specs.Feeding.{Connects, Cuts, Feeds, FeedsLink, IsServed, TakesIn, ended_step, link_at, put_back, wire}
-use Rattle.oi_target.specs.Steps.{Step, closing, faulted, logged_in, logged_in_by, one_then, served_as, step_of, stepped, steps, with_words}
-use Rattle.oi_target.specs.Targets.{Target, ended_by, link_of, new_link, nexus_of, reset_link, reset_links, with_links, without}
+use Rattle.oi_target.proofs.Placed.{link_map, link_placed, over, placed_map, placed_same, placed_twice}
+use Rattle.oi_target.specs.Events.{bare, bare_link, heard, shut}
+use Rattle.oi_target.specs.Feeding.{put_back}
+use Rattle.oi_target.specs.Steps.{Step, logged_in_by, one_then, stepped, steps, with_words}
+use Rattle.oi_target.specs.Targets.{Target, aside, closed_link, ended_by, ended_standing, link_at, link_of, nexus_of, no_bytes, placed, reset_link, reset_links, reset_standing, with_links}
 use Rattle.oi_target.specs.declared.link.Link.{Link}
 use Rattle.oi_target.specs.declared.link.Standing.{Standing}
 use Rattle.oi_target.specs.declared.link.Standing.TheVariants as standing
@@ -18,179 +19,164 @@ use Rattle.oi_target_session.specs.declared.fed.Fed.{Fed}
 use Rattle.oi_target_session.specs.declared.fed.Fed.TheVariants.{Going, Closed}
 use Rattle.oi_target_session.specs.declared.reset.Reset.{Reset}
 
-abbrev pub bare_step : Step → Step
-bare_step s = step_of (bare s.target) s.standing s.sent s.fed
+ended_shut : (nexus : List ℕ) (s : Standing) → shut (ended_standing nexus s) ≡ shut (ended_standing nexus (shut s))
+ended_shut nexus (standing.LoggingIn p) = refl
+ended_shut nexus (standing.Serving v) = refl
+ended_shut nexus standing.Ended = refl
+ended_shut nexus standing.Closed = refl
 
-abbrev pub bare_option : Option Link → Option Link
-bare_option None = None
-bare_option (Some l) = Some (bare_link l)
+reset_shut : (reset : Reset) (s : Standing) → shut (reset_standing reset s) ≡ shut (reset_standing reset (shut s))
+reset_shut reset (standing.LoggingIn p) = refl
+reset_shut reset (standing.Serving v) = refl
+reset_shut reset standing.Ended = refl
+reset_shut reset standing.Closed = refl
 
-ended_bare : (nexus : List ℕ) (ls : List Link) → map bare_link (map (ended_by nexus) ls) ≡ map (ended_by nexus) (map bare_link ls)
+pub shut_twice : (s : Standing) → shut (shut s) ≡ shut s
+shut_twice (standing.LoggingIn p) = refl
+shut_twice (standing.Serving v) = refl
+shut_twice standing.Ended = refl
+shut_twice standing.Closed = refl
+
+ended_bare : (nexus : List ℕ) (ls : List Link) → map bare_link (map (ended_by nexus) (map bare_link ls)) ≡ map bare_link (map (ended_by nexus) ls)
 ended_bare nexus [] = refl
-ended_bare nexus (l ∷ ls) = ap (λ (z : List Link). bare_link (ended_by nexus l) ∷ z) (ended_bare nexus ls)
+ended_bare nexus (l ∷ ls) =
+    ap (λ (s : Standing). link_at l.number no_bytes s ∷ map bare_link (map (ended_by nexus) (map bare_link ls))) (sym (ended_shut nexus l.standing))
+    ∙ ap (λ (z : List Link). bare_link (ended_by nexus l) ∷ z) (ended_bare nexus ls)
 
-reset_bare : (reset : Reset) (ls : List Link) → map bare_link (map (reset_link reset) ls) ≡ map (reset_link reset) (map bare_link ls)
+reset_bare : (reset : Reset) (ls : List Link) → map bare_link (map (reset_link reset) (map bare_link ls)) ≡ map bare_link (map (reset_link reset) ls)
 reset_bare reset [] = refl
-reset_bare reset (l ∷ ls) = ap (λ (z : List Link). bare_link (reset_link reset l) ∷ z) (reset_bare reset ls)
+reset_bare reset (l ∷ ls) =
+    ap (λ (s : Standing). link_at l.number no_bytes s ∷ map bare_link (map (reset_link reset) (map bare_link ls))) (sym (reset_shut reset l.standing))
+    ∙ ap (λ (z : List Link). bare_link (reset_link reset l) ∷ z) (reset_bare reset ls)
 
-resets_bare : (resets : List Reset) (ls : List Link) → map bare_link (reset_links resets ls) ≡ reset_links resets (map bare_link ls)
-resets_bare [] ls = refl
+pub bare_twice : (ls : List Link) → map bare_link (map bare_link ls) ≡ map bare_link ls
+bare_twice [] = refl
+bare_twice (l ∷ ls) =
+    ap (λ (s : Standing). link_at l.number no_bytes s ∷ map bare_link (map bare_link ls)) (shut_twice l.standing)
+    ∙ ap (λ (z : List Link). bare_link l ∷ z) (bare_twice ls)
+
+resets_bare : (resets : List Reset) (ls : List Link) → map bare_link (reset_links resets (map bare_link ls)) ≡ map bare_link (reset_links resets ls)
+resets_bare [] ls = bare_twice ls
 resets_bare (reset ∷ resets) ls =
-    resets_bare resets (map (reset_link reset) ls) ∙ ap (λ (z : List Link). reset_links resets z) (reset_bare reset ls)
+    sym (resets_bare resets (map (reset_link reset) (map bare_link ls)))
+    ∙ ap (λ (z : List Link). map bare_link (reset_links resets z)) (reset_bare reset ls)
+    ∙ resets_bare resets (map (reset_link reset) ls)
 
-links_bare : (n : ℕ) (ls : List Link) → map bare_link (without n ls) ≡ without n (map bare_link ls)
-links_bare n [] = refl
-links_bare n (l ∷ ls) = go (l.number == n) (links_bare n ls) where
-  go : (b : Bool) → map bare_link (without n ls) ≡ without n (map bare_link ls)
-      → map bare_link (if b then ls else l ∷ without n ls) ≡ (if b then map bare_link ls else bare_link l ∷ without n (map bare_link ls))
-  go true was = refl
-  go false was = ap (λ (z : List Link). bare_link l ∷ z) was
+-- two steps that differ in bytes alone
+pub record AreAlike (a b : Step) : Type 0 where
+  pub target : bare a.target ≡ bare b.target
+  pub standing : a.standing ≡ b.standing
+  pub sent : a.sent ≡ b.sent
+  pub fed : a.fed ≡ b.fed
 
-link_bare : (n : ℕ) (ls : List Link) → link_of n (map bare_link ls) ≡ bare_option (link_of n ls)
-link_bare n [] = refl
-link_bare n (l ∷ ls) = go (l.number == n) (link_bare n ls) where
-  go : (b : Bool) → link_of n (map bare_link ls) ≡ bare_option (link_of n ls)
-      → (if b then Some (bare_link l) else link_of n (map bare_link ls)) ≡ bare_option (if b then Some l else link_of n ls)
-  go true was = refl
-  go false was = was
-
-put_bare : (ls : List Link) (l : Link) → map bare_link (ls ++ l ∷ []) ≡ map bare_link ls ++ bare_link l ∷ []
-put_bare [] l = refl
-put_bare (k ∷ ks) l = ap (λ (z : List Link). bare_link k ∷ z) (put_bare ks l)
-
-login_bare : (t : Target) (a : Answer) (v : Verdict) → bare_step (logged_in_by t a v) ≡ logged_in_by (bare t) a v
-login_bare t a verdict.Going = refl
-login_bare t a verdict.Closed = refl
-login_bare t a (verdict.Done s) =
-    ap (λ (z : List Link). step_of (with_links (logged_in_by t a (verdict.Done s)).target z) (logged_in_by t a (verdict.Done s)).standing
-    (logged_in_by t a (verdict.Done s)).sent Going) (ended_bare (nexus_of s.who) t.links)
-
-step_bare : (t : Target) (s : Standing) (p : Pdu) → bare_step (stepped t s p) ≡ stepped (bare t) s p
-step_bare t (standing.LoggingIn login) p =
-    login_bare (with_words t (turned t.rules t.handle login p t.words).words) (turned t.rules t.handle login p t.words).answer
-    (turned t.rules t.handle login p t.words).answer.verdict
-step_bare t (standing.Serving v) p =
-    ap (λ (z : List Link). step_of (with_links (stepped t (standing.Serving v) p).target z) (stepped t (standing.Serving v) p).standing
-    (stepped t (standing.Serving v) p).sent (stepped t (standing.Serving v) p).fed) (resets_bare (received v.session t.units t.listing v.held p).session.resets t.links)
-step_bare t standing.Ended p = refl
-step_bare t standing.Closed p = refl
-
-steps_bare : (t : Target) (s : Standing) (ps : List Pdu) → bare_step (steps t s ps) ≡ steps (bare t) s ps
-steps_bare t s [] = refl
-steps_bare t s (p ∷ ps) =
-    go a.fed (steps_bare a.target a.standing ps)
-    ∙ ap (λ (z : Step). one_then z.fed z (steps z.target z.standing ps)) (step_bare t s p) where
-      a : Step
-      a = stepped t s p
-
-      go : (f : Fed) → bare_step (steps a.target a.standing ps) ≡ steps (bare a.target) a.standing ps
-          → bare_step (one_then f a (steps a.target a.standing ps)) ≡ one_then f (bare_step a) (steps (bare a.target) a.standing ps)
-      go Closed was = refl
-      go Going was = ap (λ (z : Step). step_of z.target z.standing (a.sent ++ z.sent) z.fed) was
-
--- a step that was taken out is put back
-put_back_bare : (n : ℕ) (splitter : State) (s : Step) → bare (put_back n splitter s) ≡ put_back n no_bytes (bare_step s)
-put_back_bare n splitter s = ap (λ (z : List Link). with_links s.target z) (put_bare s.target.links (link_at n splitter s.standing))
-
-taken_bare : (t : Target) (n : ℕ) → bare (with_links t (without n t.links)) ≡ with_links (bare t) (without n (map bare_link t.links))
-taken_bare t n = ap (λ (z : List Link). with_links t z) (links_bare n t.links)
-
--- an event of a connection that is there
-came_is : (old : Target) (n : ℕ) (l : Link) (pdus : List Pdu) (fault : Bool) → link_of n old.links ≡ Some l
-    → happened (bare old) (Came n pdus fault) ≡ came (bare (with_links old (without n old.links))) (Some (bare_link l)) pdus fault
-came_is old n l pdus fault is =
-    ap (λ (z : Target). came z (link_of n (map bare_link old.links)) pdus fault) (sym (taken_bare old n))
-    ∙ ap (λ (o : Option Link). came (bare (with_links old (without n old.links))) o pdus fault) (link_bare n old.links ∙ ap bare_option is)
-
-pub touched_is : (old : Target) (n : ℕ) (o : Option Link) (piece : List ℕ) → link_of n old.links ≡ o
-    → happened (bare old) (Touched n piece) ≡ touched (bare (with_links old (without n old.links))) (bare_option o) piece
-touched_is old n o piece is =
-    ap (λ (z : Target). touched z (link_of n (map bare_link old.links)) piece) (sym (taken_bare old n))
-    ∙ ap (λ (z : Option Link). touched (bare (with_links old (without n old.links))) z piece) (link_bare n old.links ∙ ap bare_option is)
-
--- what an event says of a call
-pub record IsEvent (old new : Target) (before after : List ℕ) (e : Event) : Type 0 where
-  pub target : bare new ≡ (happened (bare old) e).target
-  pub out : after ≡ before ++ wire (happened (bare old) e).sent
-
-pub served_event : (old new : Target) (n : ℕ) (l : Link) (before after : List ℕ) (pdus sent : List Pdu) (fault : Bool) (splitter : State)
-    → link_of n old.links ≡ Some l
-    → new ≡ put_back l.number splitter (faulted fault (steps (with_links old (without n old.links)) l.standing pdus))
-    → sent ≡ (faulted fault (steps (with_links old (without n old.links)) l.standing pdus)).sent → after ≡ before ++ wire sent
-    → IsEvent old new before after (Came n pdus fault)
-served_event old new n l before after pdus sent fault splitter is becomes sends writes =
-    let t : Target = with_links old (without n old.links) in
-    let same = steps_bare t l.standing pdus in
-    let event = came_is old n l pdus fault is in
-    record {
-      target = ap bare becomes ∙ put_back_bare l.number splitter (faulted fault (steps t l.standing pdus))
-          ∙ ap (λ (s : Step). put_back l.number no_bytes (faulted fault s)) same ∙ sym (ap (λ (z : Happened). z.target) event);
-      out = writes ∙ ap (λ (ps : List Pdu). before ++ wire ps) (sends ∙ ap (λ (s : Step). s.sent) same ∙ sym (ap (λ (z : Happened). z.sent) event));
-    }
-
-pub ended_bare_step : (t : Target) (piece : List ℕ) → bare_step (ended_step t piece) ≡ ended_step (bare t) piece
-ended_bare_step t [] = refl
-ended_bare_step t (b ∷ bs) = refl
-
-pub touched_event : (old new : Target) (n : ℕ) (l : Link) (piece before after : List ℕ) (sent : List Pdu) (s : Standing) (mine his : Step)
-    → link_of n old.links ≡ Some l → touched (bare (with_links old (without n old.links))) (Some (bare_link l)) piece ≡ happens l.number his
-    → bare_step mine ≡ his → new ≡ put_back l.number l.splitter mine → sent ≡ mine.sent → after ≡ before ++ wire sent
-    → IsEvent old new before after (Touched n piece)
-touched_event old new n l piece before after sent s mine his is does same becomes sends writes =
-    let event = touched_is old n (Some l) piece is ∙ does in
-    record {
-      target = ap bare becomes ∙ put_back_bare l.number l.splitter mine ∙ ap (λ (z : Step). put_back l.number no_bytes z) same ∙ sym (ap (λ (z : Happened). z.target) event);
-      out = writes ∙ ap (λ (ps : List Pdu). before ++ wire ps) (sends ∙ ap (λ (z : Step). z.sent) same ∙ sym (ap (λ (z : Happened). z.sent) event));
-    }
-
--- an event of this connection and these bytes
-pub record Found (old new : Target) (n : ℕ) (piece before after : List ℕ) : Type 0 where
-  pub event : Event
-  pub on : IsOn n piece event
-  pub is : IsEvent old new before after event
-
-event_at : (old new : Target) (n : ℕ) (l : Link) (piece before after : List ℕ) (sent : List Pdu) (fed : Fed) (s : Standing) → l.standing ≡ s
-    → link_of n old.links ≡ Some l → TakesIn (with_links old (without n old.links)) l s piece new sent fed → after ≡ before ++ wire sent
-    → Found old new n piece before after
-event_at old new n l piece before after sent fed (standing.LoggingIn p) at is h writes =
-    record { event = Came n h.0 h.1; on = refl; is = served_event old new n l before after h.0 sent h.1 h.2 is h.4 h.5 writes }
-event_at old new n l piece before after sent fed (standing.Serving v) at is h writes =
-    record { event = Came n h.0 h.1; on = refl; is = served_event old new n l before after h.0 sent h.1 h.2 is h.4 h.5 writes }
-event_at old new n l piece before after sent fed standing.Ended at is h writes =
-    let t : Target = with_links old (without n old.links) in
-    record {
-      event = Touched n piece;
-      on = (refl, refl);
-      is = touched_event old new n l piece before after sent standing.Ended (ended_step t piece) (ended_step (bare t) piece) is
-          (ap (λ (z : Standing). happens l.number (touched_step (bare t) z piece)) at) (ended_bare_step t piece) h.0 h.1 writes;
-    }
-event_at old new n l piece before after sent fed standing.Closed at is h writes =
-    let t : Target = with_links old (without n old.links) in
-    record {
-      event = Touched n piece;
-      on = (refl, refl);
-      is = touched_event old new n l piece before after sent standing.Closed (closing t []) (closing (bare t) []) is
-          (ap (λ (z : Standing). happens l.number (touched_step (bare t) z piece)) at) refl h.0 h.1 writes;
-    }
-
-event_by : (old new : Target) (n : ℕ) (piece before after : List ℕ) (fed : Fed) (o : Option Link) → link_of n old.links ≡ o
-    → FeedsLink (with_links old (without n old.links)) o piece before after fed new → Found old new n piece before after
-event_by old new n piece before after fed None is h = record {
-  event = Touched n piece;
-  on = (refl, refl);
-  is = record {
-    target = ap bare h.0 ∙ sym (ap (λ (z : Happened). z.target) (touched_is old n None piece is));
-    out = h.2 ∙ sym (append-nil before) ∙ sym (ap (λ (z : Happened). before ++ wire z.sent) (touched_is old n None piece is));
-  };
+login_alike : (t : Target) (a : Answer) (v : Verdict) → AreAlike (logged_in_by (bare t) a v) (logged_in_by t a v)
+login_alike t a verdict.Going = record { target = ap (λ (z : List Link). with_links t z) (bare_twice t.links); standing = refl; sent = refl; fed = refl }
+login_alike t a verdict.Closed = record { target = ap (λ (z : List Link). with_links t z) (bare_twice t.links); standing = refl; sent = refl; fed = refl }
+login_alike t a (verdict.Done s) = record {
+  target = ap (λ (z : List Link). with_links (logged_in_by t a (verdict.Done s)).target z) (ended_bare (nexus_of s.who) t.links);
+  standing = refl;
+  sent = refl;
+  fed = refl;
 }
-event_by old new n piece before after fed (Some l) is h = event_at old new n l piece before after h.0 fed l.standing refl is h.1 h.2
 
-pub feeds_are_events : FeedsAreEvents
-feeds_are_events old new n piece before after fed h =
-    let found = event_by old new n piece before after fed (link_of n old.links) refl h.1 in (found.event, found.on, found.is.target, found.is.out)
+pub step_alike : (t : Target) (s : Standing) (p : Pdu) → AreAlike (stepped (bare t) s p) (stepped t s p)
+step_alike t (standing.LoggingIn login) p =
+    login_alike (with_words t (turned t.rules t.handle login p t.words).words) (turned t.rules t.handle login p t.words).answer
+    (turned t.rules t.handle login p t.words).answer.verdict
+step_alike t (standing.Serving v) p = record {
+  target = ap (λ (z : List Link). with_links (stepped t (standing.Serving v) p).target z) (resets_bare (received v.session t.units t.listing v.held p).session.resets t.links);
+  standing = refl;
+  sent = refl;
+  fed = refl;
+}
+step_alike t standing.Ended p = record { target = ap (λ (z : List Link). with_links t z) (bare_twice t.links); standing = refl; sent = refl; fed = refl }
+step_alike t standing.Closed p = record { target = ap (λ (z : List Link). with_links t z) (bare_twice t.links); standing = refl; sent = refl; fed = refl }
 
-pub calls_are_events : CallsAreEvents
-calls_are_events old new n = (
-  λ h. ap bare h.5 ∙ ap (λ (z : List Link). with_links old z) (put_bare old.links (new_link n h.1)),
-  λ h. ap bare h ∙ taken_bare old n,
-)
+-- a connection that was ended is as a closed one
+pub step_shut : (t : Target) (s : Standing) (p : Pdu) → stepped t (shut s) p ≡ stepped t s p
+step_shut t (standing.LoggingIn login) p = refl
+step_shut t (standing.Serving v) p = refl
+step_shut t standing.Ended p = refl
+step_shut t standing.Closed p = refl
+
+-- the connection in its place, without bytes
+abbrev pub seat : ℕ → Standing → Target → Target
+seat n s u = with_links u (placed (link_at n no_bytes s) u.links)
+
+pub seat_bare : (n : ℕ) (splitter : State) (s : Step) → bare (put_back n splitter s) ≡ seat n (shut s.standing) (bare s.target)
+seat_bare n splitter s = ap (λ (z : List Link). with_links s.target z) (placed_map bare_link (λ l. refl) (link_at n splitter s.standing) s.target.links)
+
+pub heard_alike : (n : ℕ) (a b : Step) → AreAlike a b → heard n a ≡ heard n b
+heard_alike n a b are =
+    ap (λ (z : Target). record { target = z; sent = a.sent }) (seat_bare n no_bytes a)
+    ∙ ap (λ (z : Target). record { target = seat n (shut a.standing) z; sent = a.sent }) are.target
+    ∙ ap (λ (z : Standing). record { target = seat n (shut z) (bare b.target); sent = a.sent }) are.standing
+    ∙ ap (λ (z : List Pdu). record { target = seat n (shut b.standing) (bare b.target); sent = z }) are.sent
+    ∙ ap (λ (z : Target). record { target = z; sent = b.sent }) (sym (seat_bare n no_bytes b))
+
+-- the connection is aside
+pub record IsAside (n : ℕ) (ls : List Link) : Type 0 where
+  pub link : Link
+  pub found : link_of n ls ≡ Some link
+  pub closed : link.standing ≡ standing.Closed
+
+aside_ended : (n : ℕ) (nexus : List ℕ) (ls : List Link) → IsAside n ls → IsAside n (map (ended_by nexus) ls)
+aside_ended n nexus ls a = record {
+  link = ended_by nexus a.link;
+  found = link_map (ended_by nexus) (λ l. refl) n ls ∙ ap (over (ended_by nexus)) a.found;
+  closed = ap (ended_standing nexus) a.closed;
+}
+
+aside_resets : (n : ℕ) (resets : List Reset) (ls : List Link) → IsAside n ls → IsAside n (reset_links resets ls)
+aside_resets n [] ls a = a
+aside_resets n (reset ∷ resets) ls a = aside_resets n resets (map (reset_link reset) ls) (record {
+  link = reset_link reset a.link;
+  found = link_map (reset_link reset) (λ l. refl) n ls ∙ ap (over (reset_link reset)) a.found;
+  closed = ap (reset_standing reset) a.closed;
+})
+
+aside_login : (n : ℕ) (t : Target) (a : Answer) (v : Verdict) → IsAside n t.links → IsAside n (logged_in_by t a v).target.links
+aside_login n t a verdict.Going h = h
+aside_login n t a verdict.Closed h = h
+aside_login n t a (verdict.Done s) h = aside_ended n (nexus_of s.who) t.links h
+
+pub aside_step : (n : ℕ) (t : Target) (s : Standing) (p : Pdu) → IsAside n t.links → IsAside n (stepped t s p).target.links
+aside_step n t (standing.LoggingIn login) p h =
+    aside_login n (with_words t (turned t.rules t.handle login p t.words).words) (turned t.rules t.handle login p t.words).answer
+    (turned t.rules t.handle login p t.words).answer.verdict h
+aside_step n t (standing.Serving v) p h = aside_resets n (received v.session t.units t.listing v.held p).session.resets t.links h
+aside_step n t standing.Ended p h = h
+aside_step n t standing.Closed p h = h
+
+pub aside_steps : (n : ℕ) (t : Target) (s : Standing) (ps : List Pdu) → IsAside n t.links → IsAside n (steps t s ps).target.links
+aside_steps n t s [] h = h
+aside_steps n t s (p ∷ ps) h = go a.fed (aside_step n t s p h) (λ now. aside_steps n a.target a.standing ps now) where
+  a : Step
+  a = stepped t s p
+
+  go : (f : Fed) → IsAside n a.target.links → (IsAside n a.target.links → IsAside n (steps a.target a.standing ps).target.links)
+      → IsAside n (one_then f a (steps a.target a.standing ps)).target.links
+  go Closed now more = now
+  go Going now more = more now
+
+-- a connection that is there
+pub is_aside : (n : ℕ) (ls : List Link) (l : Link) → link_of n ls ≡ Some l → IsAside n (placed (closed_link n) ls)
+is_aside n ls l found = record { link = closed_link n; found = link_placed (closed_link n) ls ∙ ap (over (λ k. closed_link n)) found; closed = refl }
+
+-- aside it changes nothing
+pub seat_closed : (n : ℕ) (t : Target) → IsAside n t.links → seat n standing.Closed (bare t) ≡ bare t
+seat_closed n t a =
+    ap (λ (z : List Link). with_links t z)
+    (ap (λ (s : Standing). placed (link_at n no_bytes (shut s)) (map bare_link t.links)) (sym a.closed)
+    ∙ placed_same n (map bare_link t.links) (bare_link a.link) (link_map bare_link (λ l. refl) n t.links ∙ ap (over bare_link) a.found))
+
+pub seat_again : (n : ℕ) (r s : Standing) (u : Target) → seat n r (seat n s u) ≡ seat n r u
+seat_again n r s u = ap (λ (z : List Link). with_links u z) (placed_twice (link_at n no_bytes r) (link_at n no_bytes s) u.links refl)
+
+-- where it stood before it was aside
+pub seat_before : (n : ℕ) (t : Target) (l : Link) → link_of n t.links ≡ Some l → seat n (shut l.standing) (bare (aside n t)) ≡ bare t
+seat_before n t l found =
+    ap (λ (z : List Link). with_links t (placed (link_at n no_bytes (shut l.standing)) z)) (placed_map bare_link (λ k. refl) (closed_link n) t.links)
+    ∙ ap (λ (z : List Link). with_links t z) (placed_twice (link_at n no_bytes (shut l.standing)) (closed_link n) (map bare_link t.links) refl)
+    ∙ ap (λ (z : List Link). with_links t z)
+    (placed_same n (map bare_link t.links) (bare_link l) (link_map bare_link (λ k. refl) n t.links ∙ ap (over bare_link) found))

@@ -1,12 +1,12 @@
 -- PDUs of a connection in two parts, and what they let the units execute.
-use Rattle.std.proofs.Common.{◌≡◌, ◌∙◌, List, [], ◌∷◌, ◌++◌, refl, ap, sym, append_assoc, append-nil}
+use Rattle.std.proofs.Common.{◌≡◌, ◌∙◌, List, [], ◌∷◌, ◌++◌, refl, ap, sym, append_assoc}
 use Rattle.oi_pdu.specs.declared.codec.Pdu.{Pdu}
 use Rattle.oi_target.specs.Runs.{StepsExecute, StepsJoin, step_requests, steps_requests}
 use Rattle.oi_target.specs.Steps.{Step, behind, logged_in_by, one_then, step_of, stepped, steps, with_words}
 use Rattle.oi_target.specs.Targets.{Target}
 use Rattle.oi_target.specs.declared.link.Standing.{Standing}
 use Rattle.oi_target.specs.declared.link.Standing.TheVariants as standing
-use Rattle.oi_target_login.specs.Logins.{Turn, turned}
+use Rattle.oi_target_login.specs.Logins.{turned}
 use Rattle.oi_target_login.specs.declared.answer.Answer.{Answer}
 use Rattle.oi_target_login.specs.declared.answer.Verdict.{Verdict}
 use Rattle.oi_target_login.specs.declared.answer.Verdict.TheVariants as verdict
@@ -15,8 +15,7 @@ use Rattle.oi_target_session.specs.Arrivals.{place_of}
 use Rattle.oi_target_session.specs.Executions.{if_going}
 use Rattle.oi_target_session.specs.declared.fed.Fed.{Fed}
 use Rattle.oi_target_session.specs.declared.fed.Fed.TheVariants.{Going, Closed}
-use Rattle.oi_units.specs.Runs.{Request, units_after}
-use Rattle.oi_units.specs.declared.unit.LogicalUnit.{LogicalUnit}
+use Rattle.oi_units.specs.Runs.{units_after}
 
 after_both : (f g : Fed) (a b c : Step) → f ≡ a.fed → g ≡ b.fed → one_then f a (one_then g b c) ≡ one_then (one_then f a b).fed (one_then f a b) c
 after_both Closed g a b c is was = ap (λ (z : Fed). one_then z a c) is
@@ -49,7 +48,7 @@ login_units t a verdict.Going = refl
 login_units t a verdict.Closed = refl
 login_units t a (verdict.Done s) = refl
 
-step_units : (t : Target) (s : Standing) (p : Pdu) → (stepped t s p).target.units ≡ units_after t.units (step_requests t s p)
+pub step_units : (t : Target) (s : Standing) (p : Pdu) → (stepped t s p).target.units ≡ units_after t.units (step_requests t s p)
 step_units t (standing.LoggingIn login) p =
     login_units (with_words t (turned t.rules t.handle login p t.words).words) (turned t.rules t.handle login p t.words).answer
     (turned t.rules t.handle login p t.words).answer.verdict

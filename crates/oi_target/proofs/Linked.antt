@@ -1,10 +1,8 @@
 -- The connections of a target keep their numbers and their bytes while PDUs of one of them are served.
-use Rattle.std.proofs.Common.{ℕ, Bool, true, false, ◌≡◌, ◌∙◌, Option, Some, None, List, [], ◌∷◌, ◌++◌, map, refl, ap, sym, subst, if◌then◌else◌, ◌==◌}
-use Rattle.std.proofs.lemmas.Bool.{eqb-true}
+use Rattle.std.proofs.Common.{ℕ, Bool, true, false, ◌≡◌, ◌∙◌, Some, None, List, [], ◌∷◌, map, refl, ap, sym, subst, if◌then◌else◌, ◌==◌}
 use Rattle.oi_pdu.specs.declared.codec.Pdu.{Pdu}
-use Rattle.oi_target.specs.Courses.{is_open}
 use Rattle.oi_target.specs.Steps.{Step, logged_in_by, one_then, stepped, steps, with_words}
-use Rattle.oi_target.specs.Targets.{Target, ended_by, ended_standing, link_of, nexus_of, reset_link, reset_links, reset_standing, without}
+use Rattle.oi_target.specs.Targets.{Target, ended_by, ended_standing, link_of, nexus_of, reset_link, reset_links, reset_standing}
 use Rattle.oi_target.specs.declared.link.Link.{Link}
 use Rattle.oi_target.specs.declared.link.Standing.{Standing}
 use Rattle.oi_target.specs.declared.link.Standing.TheVariants as standing
@@ -16,7 +14,12 @@ use Rattle.oi_target_session.specs.Arrivals.{received}
 use Rattle.oi_target_session.specs.declared.fed.Fed.{Fed}
 use Rattle.oi_target_session.specs.declared.fed.Fed.TheVariants.{Going, Closed}
 use Rattle.oi_target_session.specs.declared.reset.Reset.{Reset}
-use Rattle.std.specs.Prelude.{bytes_eq}
+
+-- bytes of it are cut into PDUs
+abbrev pub is_open : Standing → Bool
+is_open (standing.LoggingIn p) = true
+is_open (standing.Serving v) = true
+is_open s = false
 
 -- the same connection, which is open only where it was
 pub record IsKept (old new : Link) : Type 0 where

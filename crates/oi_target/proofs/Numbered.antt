@@ -1,8 +1,9 @@
 -- Connections of different numbers.
 use Rattle.std.proofs.Common.{ℕ, Bool, true, false, ◌≡◌, ◌∙◌, Option, Some, None, List, [], ◌∷◌, ◌++◌, refl, ap, sym, subst, if◌then◌else◌, ◌==◌}
 use Rattle.std.proofs.lemmas.Bool.{eq-eqb, eqb-true}
-use Rattle.oi_target.proofs.Linked.{AreKept, IsKept}
-use Rattle.oi_target.specs.Targets.{link_of, without}
+use Rattle.oi_target.proofs.Linked.{AreKept}
+use Rattle.oi_target.proofs.Placed.{link_placed, others_placed, over}
+use Rattle.oi_target.specs.Targets.{link_of, placed, without}
 use Rattle.oi_target.specs.declared.link.Link.{Link}
 
 -- no two connections have one number
@@ -92,11 +93,18 @@ unique_kept (l ∷ ls) [] are u = absurd are
 unique_kept (l ∷ ls) (k ∷ ks) are u =
     (none_kept k.number ls ks are.1 (subst (λ (n : ℕ). link_of n ls ≡ None) (sym are.0.number) u.0), unique_kept ls ks are.1 u.1)
 
-pub number_of : (n : ℕ) (ls : List Link) (l : Link) → link_of n ls ≡ Some l → l.number ≡ n
-number_of n [] l h = absurd (let e : ⊥ = cc in e)
-number_of n (k ∷ ks) l h = go (k.number == n) refl h (λ e. number_of n ks l e) where
-  go : (b : Bool) → (k.number == n) ≡ b → (if b then Some k else link_of n ks) ≡ Some l → (link_of n ks ≡ Some l → l.number ≡ n) → l.number ≡ n
-  go true is e more = subst (λ (z : Link). z.number ≡ n) (same k l e) (eqb-true k.number n is) where
-    same : (a b : Link) → Some a ≡ Some b → a ≡ b
-    same a b e = cc
-  go false is e more = more e
+pub none_placed : (n : ℕ) (k : Link) (ls : List Link) → link_of n ls ≡ None → link_of n (placed k ls) ≡ None
+none_placed n k ls h = go (k.number == n) refl where
+  go : (b : Bool) → (k.number == n) ≡ b → link_of n (placed k ls) ≡ None
+  go true is =
+      let same = eqb-true k.number n is in
+      subst (λ (z : ℕ). link_of z (placed k ls) ≡ None) same
+      (link_placed k ls ∙ ap (over (λ l. k)) (subst (λ (z : ℕ). link_of z ls ≡ None) (sym same) h))
+  go false is = others_placed n k ls is ∙ h
+
+pub unique_placed : (k : Link) (ls : List Link) → AreUnique ls → AreUnique (placed k ls)
+unique_placed k [] u = tt
+unique_placed k (l ∷ ls) u = go (l.number == k.number) refl (unique_placed k ls u.1) where
+  go : (b : Bool) → (l.number == k.number) ≡ b → AreUnique (placed k ls) → AreUnique (if b then k ∷ ls else l ∷ placed k ls)
+  go true is was = (subst (λ (z : ℕ). link_of z ls ≡ None) (eqb-true l.number k.number is) u.0, u.1)
+  go false is was = (none_placed l.number k ls u.0, was)

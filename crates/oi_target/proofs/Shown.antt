@@ -4,7 +4,6 @@ use Rattle.std.specs.Prelude.{codes}
 use Rattle.oi_base.specs.declared.login.Params.{Params}
 use Rattle.oi_chap.specs.Chap.{challenge_bytes, identifier}
 use Rattle.oi_negotiate.specs.Negotiated.{answer_to as value_of, negotiated, refused_key}
-use Rattle.oi_pdu.specs.declared.codec.Pdu.{Pdu}
 use Rattle.oi_pdu.specs.declared.header.Header.{Header}
 use Rattle.oi_pdu.specs.declared.header.Header.TheVariants as head
 use Rattle.oi_pdu.specs.declared.header.LoginRequest.{LoginRequest}

@@ -1,89 +1,79 @@
--- A target over all calls so far.
-use Rattle.std.specs.Prelude.{◌≡◌, ℕ, Bool, true, false, Some, List, [], ◌∷◌, ◌++◌, Result, Ok, ◌==◌, if◌then◌else◌}
+-- A target over all calls so far, which did not want memory.
+use Rattle.std.specs.Prelude.{◌≡◌, ℕ, Bool, true, false, List, [], ◌∷◌, ◌++◌, ◌==◌, if◌then◌else◌}
 use Rattle.oi_pdu.specs.declared.codec.Pdu.{Pdu}
 use Rattle.oi_sendtargets.specs.declared.found.Found.{Found}
-use Rattle.oi_target.specs.Events.{Event, Joined, Left, Told, Came, Happened, IsOn, bare, happened}
-use Rattle.oi_target.specs.Feeding.{Connects, Feeds, wire}
-use Rattle.oi_target.specs.Runs.{AreFramed, joined}
-use Rattle.oi_target.specs.Targets.{Target, link_of, new_target, with_links, without}
+use Rattle.oi_stream.specs.Bytewise.{Fed as Framed, fed, waits}
+use Rattle.oi_stream.specs.Feeding.{State}
+use Rattle.oi_stream.specs.Framing.{Stop, Short, Frames}
+use Rattle.oi_target.specs.Events.{Event, Joined, Left, Told, Whole, Malformed, bare, pdus_on, sent_to, state_after}
+use Rattle.oi_target.specs.Feeding.{taken, wire, with_new}
+use Rattle.oi_target.specs.Targets.{Target, new_target, no_bytes, with_links, without}
 use Rattle.oi_target.specs.declared.config.TargetConfig.{TargetConfig}
-use Rattle.oi_target.specs.declared.link.Link.{Link}
-use Rattle.oi_target.specs.declared.link.Standing.{Standing}
-use Rattle.oi_target.specs.declared.link.Standing.TheVariants as standing
-use Rattle.oi_target_session.specs.declared.fed.Fed.{Fed}
 
--- the calls, each with what it wrote: `connected`, `gone`, `list`, and `feed` with its bytes
+-- the calls: `connected`, `gone`, `list`, and `feed` with its bytes
 pub data Call : Type 0 where
   Connected : (n : ℕ) → Call
   Gone : (n : ℕ) → Call
   Listed : (listing : List Found) → Call
-  Piece : (n : ℕ) → (piece : List ℕ) → (written : List ℕ) → Call
+  Piece : (n : ℕ) → (piece : List ℕ) → Call
 
--- bytes of it are cut into PDUs
-abbrev pub is_open : Standing → Bool
-is_open (standing.LoggingIn p) = true
-is_open (standing.Serving v) = true
-is_open s = false
+-- what each of them does, as its contract says
+abbrev pub after : Target → Call → Target
+after t (Connected n) = with_new t n
+after t (Gone n) = with_links t (without n t.links)
+after t (Listed listing) = record t { listing = listing }
+after t (Piece n piece) = (taken t n piece).target
 
--- a call that did not want memory took the target from one state to another
-abbrev pub Takes : Target → Call → Target → Type 0
-Takes old (Connected n) new = Connects old n (Ok tt) new
-Takes old (Gone n) new = new ≡ with_links old (without n old.links)
-Takes old (Listed listing) new = new ≡ record old { listing = listing }
-Takes old (Piece n piece written) new = (fed : Fed) × Feeds old n piece [] written (Ok fed) new
+-- the target after all calls since it was made, of which the newest stands first
+abbrev pub course : TargetConfig → List Call → Target
+course c [] = new_target c
+course c (call ∷ calls) = after (course c calls) call
 
--- all calls since the target was made, of which the newest stands first
-abbrev pub Course : TargetConfig → List Call → Target → Type 0
-Course c [] t = t ≡ new_target c
-Course c (call ∷ calls) t = (before : Target) × Course c calls before × Takes before call t
+-- what they wrote on a connection
+abbrev pub written_on : ℕ → TargetConfig → List Call → List ℕ
+written_on k c [] = []
+written_on k c (Piece n piece ∷ calls) = written_on k c calls ++ (if n == k then wire (taken (course c calls) n piece).sent else [])
+written_on k c (call ∷ calls) = written_on k c calls
 
--- the event of a call: for a piece, PDUs of its connection, or no PDUs
-abbrev pub IsEventOf : Call → Event → Type 0
-IsEventOf (Connected n) e = e ≡ Joined n
-IsEventOf (Gone n) e = e ≡ Left n
-IsEventOf (Listed listing) e = e ≡ Told listing
-IsEventOf (Piece n piece written) e = IsOn n piece e
+-- the bytes that came on a connection since it was accepted
+abbrev pub bytes_on : ℕ → List Call → List ℕ
+bytes_on k [] = []
+bytes_on k (Connected n ∷ calls) = if n == k then [] else bytes_on k calls
+bytes_on k (Piece n piece ∷ calls) = if n == k then bytes_on k calls ++ piece else bytes_on k calls
+bytes_on k (call ∷ calls) = bytes_on k calls
 
--- the target after events, of which the newest stands first
-abbrev pub state_after : TargetConfig → List Event → Target
-state_after c [] = new_target c
-state_after c (e ∷ es) = (happened (state_after c es) e).target
+-- their PDUs, and why no further one follows
+abbrev pub framed_on : ℕ → List Call → Framed
+framed_on n calls = fed no_bytes (bytes_on n calls)
 
--- what the newest event makes the target write
-abbrev pub written_at : TargetConfig → Event → List Event → List ℕ
-written_at c e es = wire (happened (state_after c es) e).sent
+-- the PDUs that a further piece makes whole; behind a stop no byte counts
+abbrev pub news_by : Stop → State → List ℕ → Framed
+news_by Short s piece = fed s piece
+news_by stop s piece = waits s
 
--- what a call wrote
-abbrev pub written_by : Call → List ℕ
-written_by (Piece n piece written) = written
-written_by call = []
+abbrev pub news : ℕ → List ℕ → List Call → Framed
+news n piece calls = news_by (framed_on n calls).stop (framed_on n calls).state piece
 
--- one event for each call, which writes what the call wrote
-abbrev pub AreEvents : TargetConfig → List Call → List Event → Type 0
-AreEvents c [] es = es ≡ []
-AreEvents c (call ∷ calls) [] = ⊥
-AreEvents c (call ∷ calls) (e ∷ es) = IsEventOf call e × (written_by call ≡ written_at c e es) × AreEvents c calls es
+-- they became whole one after another
+abbrev pub came : ℕ → List Pdu → List Event → List Event
+came n [] es = es
+came n (p ∷ ps) es = came n ps (Whole n p ∷ es)
 
--- over all calls since the target was made: what it wrote, and all that it will do, are functions of the connections that were
--- accepted or are gone, of the listings, and of the PDUs of each connection in the order in which they became whole
-abbrev pub CoursesAreEvents : Type 0
-CoursesAreEvents =
-    (c : TargetConfig) (calls : List Call) (t : Target) → Course c calls t
-    → (es : List Event) × AreEvents c calls es × (bare t ≡ state_after c es)
+abbrev pub spoilt : ℕ → Stop → List Event → List Event
+spoilt n Short es = es
+spoilt n stop es = Malformed n ∷ es
 
--- the pieces that came on a connection since it was accepted, the newest first
-abbrev pub pieces_on : ℕ → List Call → List (List ℕ)
-pieces_on n [] = []
-pieces_on n (Connected m ∷ calls) = if m == n then [] else pieces_on n calls
-pieces_on n (Piece m piece written ∷ calls) = if m == n then piece ∷ pieces_on n calls else pieces_on n calls
-pieces_on n (call ∷ calls) = pieces_on n calls
+abbrev pub arrived : ℕ → Framed → List Event → List Event
+arrived n f es = spoilt n f.stop (came n f.pdus es)
 
--- its PDUs, in the order in which they became whole
-abbrev pub pdus_on : ℕ → List Event → List Pdu
-pdus_on n [] = []
-pdus_on n (Joined m ∷ es) = if m == n then [] else pdus_on n es
-pdus_on n (Came m pdus fault ∷ es) = if m == n then pdus_on n es ++ pdus else pdus_on n es
-pdus_on n (e ∷ es) = pdus_on n es
+-- what the calls are to the target: connections that were accepted or are gone, listings, and the PDUs of each connection in the order
+-- in which they became whole
+abbrev pub events_of : List Call → List Event
+events_of [] = []
+events_of (Connected n ∷ calls) = Joined n ∷ events_of calls
+events_of (Gone n ∷ calls) = Left n ∷ events_of calls
+events_of (Listed listing ∷ calls) = Told listing ∷ events_of calls
+events_of (Piece n piece ∷ calls) = arrived n (news n piece calls) (events_of calls)
 
 -- a number that was given to a connection
 abbrev pub is_given : ℕ → List Call → Bool
@@ -97,13 +87,25 @@ AreNumbered [] = Unit {0}
 AreNumbered (Connected n ∷ calls) = (is_given n calls ≡ false) × AreNumbered calls
 AreNumbered (call ∷ calls) = AreNumbered calls
 
--- of each connection that is open: its PDUs in these events are the framing of all bytes that came on it, however they were cut
-abbrev pub ConnectionsAreFramed : List Call → List Event → Target → Type 0
-ConnectionsAreFramed calls es t =
-    (n : ℕ) (l : Link) → link_of n t.links ≡ Some l → is_open l.standing ≡ true → AreFramed 65536 (joined (pieces_on n calls)) (pdus_on n es) false
+-- a target is a function of these events alone, up to bytes of which no PDU was made yet
+abbrev pub CoursesAreEvents : Type 0
+CoursesAreEvents = (c : TargetConfig) (calls : List Call) → AreNumbered calls → bare (course c calls) ≡ state_after c (events_of calls)
 
--- the same over all calls of which each connection had a new number
-abbrev pub CoursesAreFramed : Type 0
-CoursesAreFramed =
-    (c : TargetConfig) (calls : List Call) (t : Target) → AreNumbered calls → Course c calls t
-    → (es : List Event) × AreEvents c calls es × (bare t ≡ state_after c es) × ConnectionsAreFramed calls es t
+-- and so is what it writes on each connection
+abbrev pub WritesAreOfEvents : Type 0
+WritesAreOfEvents =
+    (c : TargetConfig) (calls : List Call) (k : ℕ) → AreNumbered calls → written_on k c calls ≡ wire (sent_to k c (events_of calls))
+
+-- a piece in two parts makes the same events as in one, so that what comes later, too, has the same effect
+abbrev pub CutsDoNotMatter : Type 0
+CutsDoNotMatter =
+    (n : ℕ) (x y : List ℕ) (calls : List Call) → events_of (Piece n y ∷ Piece n x ∷ calls) ≡ events_of (Piece n (x ++ y) ∷ calls)
+
+-- the PDUs of a connection are the framing of all its bytes, whatever comes on others
+pub record AreFramed (bytes : List ℕ) (pdus : List Pdu) : Type 0 where
+  pub place : ℕ
+  pub stop : Stop
+  pub frames : Frames 65536 bytes pdus place stop
+
+abbrev pub PdusAreFramed : Type 0
+PdusAreFramed = (n : ℕ) (calls : List Call) → AreFramed (bytes_on n calls) (pdus_on n (events_of calls))

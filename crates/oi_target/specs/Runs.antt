@@ -1,76 +1,25 @@
--- A connection over all its bytes: how they were cut does not matter, and only commands that are executed change the units.
-use Rattle.std.specs.Prelude.{◌≡◌, ℕ, Bool, true, false, List, [], ◌∷◌, ◌++◌}
+-- PDUs of a connection one after another, and the commands that they let the units execute.
+use Rattle.std.specs.Prelude.{◌≡◌, ℕ, Option, Some, None, List, [], ◌∷◌, ◌++◌, map}
 use Rattle.oi_pdu.specs.declared.codec.Pdu.{Pdu}
-use Rattle.oi_stream.specs.Feeding.{Follows, State}
-use Rattle.oi_stream.specs.Framing.{Stop, BadHeader, TooLong, Short, Frames}
-use Rattle.oi_target.specs.Feeding.{Cuts}
-use Rattle.oi_target.specs.Steps.{Step, behind, faulted, one_then, stepped, steps}
-use Rattle.oi_target.specs.Targets.{Target}
+use Rattle.oi_target.specs.Courses.{AreNumbered, Call, course, events_of}
+use Rattle.oi_target.specs.Events.{Event, Whole, state_after}
+use Rattle.oi_target.specs.Steps.{one_then, stepped, steps}
+use Rattle.oi_target.specs.Targets.{Target, aside, link_of}
+use Rattle.oi_target.specs.declared.config.TargetConfig.{TargetConfig}
 use Rattle.oi_target.specs.declared.link.Link.{Link}
 use Rattle.oi_target.specs.declared.link.Standing.{Standing}
 use Rattle.oi_target.specs.declared.link.Standing.TheVariants as standing
 use Rattle.oi_target_session.specs.Arrivals.{place_of}
 use Rattle.oi_target_session.specs.Executions.{if_going, requests_at}
-use Rattle.oi_target_session.specs.declared.fed.Fed.{Fed}
-use Rattle.oi_target_session.specs.declared.fed.Fed.TheVariants.{Going}
-use Rattle.oi_units.specs.Runs.{Request, units_after}
+use Rattle.oi_units.specs.Runs.{Request, replies, units_after}
+use Rattle.oi_units.specs.Units.{fresh_unit}
+use Rattle.oi_units.specs.declared.reply.UnitReply.{UnitReply}
 
 -- PDUs in two parts come to the same as in one
 abbrev pub StepsJoin : Type 0
 StepsJoin =
     (t : Target) (s : Standing) (ps qs : List Pdu)
     → steps t s (ps ++ qs) ≡ one_then (steps t s ps).fed (steps t s ps) (steps (steps t s ps).target (steps t s ps).standing qs)
-
-abbrev pub is_stop : Stop → Bool
-is_stop (BadHeader byte) = true
-is_stop (TooLong size) = true
-is_stop Short = false
-
--- these PDUs are the framing of all bytes of a connection, and a malformed one follows them or not
-pub record AreFramed (limit : ℕ) (bytes : List ℕ) (pdus : List Pdu) (fault : Bool) : Type 0 where
-  pub place : ℕ
-  pub stop : Stop
-  pub frames : Frames limit bytes pdus place stop
-  pub fault_is : fault ≡ is_stop stop
-
--- whatever came on a connection before, the PDUs that were served with those of a further piece are the framing of all its bytes
-abbrev pub PiecesAreFramed : Type 0
-PiecesAreFramed =
-    (bytes : List ℕ) (before pdus : List Pdu) (piece : List ℕ) (old new : State) (fault : Bool)
-    → old.ended ≡ false → Follows bytes before old → Cuts old new piece pdus fault
-    → AreFramed old.limit (bytes ++ piece) (before ++ pdus) fault
-
--- the bytes of pieces, of which the newest stands first
-abbrev pub joined : List (List ℕ) → List ℕ
-joined [] = []
-joined (piece ∷ pieces) = joined pieces ++ piece
-
--- all pieces that came on a connection since it was accepted, and all PDUs that they made whole
-abbrev pub AreServed : List (List ℕ) → List Pdu → State → Type 0
-AreServed [] pdus s = (pdus ≡ []) × Follows [] [] s × (s.limit ≡ 65536) × (s.ended ≡ false)
-AreServed (piece ∷ pieces) pdus s =
-    (before : List Pdu) × (more : List Pdu) × (old : State) × AreServed pieces before old × Cuts old s piece more false × (pdus ≡ before ++ more)
-
--- over all bytes of a connection: its PDUs are the framing of these bytes
-abbrev pub WholeIsFramed : Type 0
-WholeIsFramed = (pieces : List (List ℕ)) (pdus : List Pdu) (s : State) → AreServed pieces pdus s → AreFramed 65536 (joined pieces) pdus false
-
--- so the same bytes in other pieces made the same PDUs whole
-abbrev pub CutsGiveTheSame : Type 0
-CutsGiveTheSame =
-    (pieces others : List (List ℕ)) (pdus same : List Pdu) (s s' : State)
-    → AreServed pieces pdus s → AreServed others same s' → joined pieces ≡ joined others → pdus ≡ same
-
--- a piece that is fed in two parts comes to the same as in one: the target, where the connection stands, what is sent, and whether
--- it stays
-abbrev pub PartsComeToTheWhole : Type 0
-PartsComeToTheWhole =
-    (t : Target) (l : Link) (bytes : List ℕ) (before : List Pdu) (x y : List ℕ) (middle new whole : State) (first second all : List Pdu) (fault same : Bool)
-    → l.splitter.ended ≡ false → Follows bytes before l.splitter
-    → Cuts l.splitter middle x first false → Cuts middle new y second fault → Cuts l.splitter whole (x ++ y) all same
-    → (steps t l.standing first).fed ≡ Going
-    → faulted same (steps t l.standing all)
-    ≡ behind (steps t l.standing first).sent (faulted fault (steps (steps t l.standing first).target (steps t l.standing first).standing second))
 
 -- the requests that a PDU lets the units execute, in the order of execution
 abbrev pub step_requests : Target → Standing → Pdu → List Request
@@ -87,3 +36,30 @@ steps_requests t s (p ∷ ps) =
 -- the units after PDUs are those after these requests, one after another: nothing else changes them
 abbrev pub StepsExecute : Type 0
 StepsExecute = (t : Target) (s : Standing) (ps : List Pdu) → (steps t s ps).target.units ≡ units_after t.units (steps_requests t s ps)
+
+-- of an event
+abbrev pub link_requests : Target → ℕ → Option Link → Pdu → List Request
+link_requests t n None p = []
+link_requests t n (Some l) p = step_requests (aside n t) l.standing p
+
+abbrev pub event_requests : Target → Event → List Request
+event_requests t (Whole n p) = link_requests t n (link_of n t.links) p
+event_requests t e = []
+
+-- all requests since the target was made, of all connections, in the order of execution
+abbrev pub requests_of : TargetConfig → List Event → List Request
+requests_of c [] = []
+requests_of c (e ∷ es) = requests_of c es ++ event_requests (state_after c es) e
+
+-- and the replies to them, each of the units as they stood then
+abbrev pub replies_of : TargetConfig → List Event → List UnitReply
+replies_of c [] = []
+replies_of c (e ∷ es) = replies_of c es ++ replies (state_after c es).units (event_requests (state_after c es) e)
+
+-- over all calls so far: the units are those after these requests, one after another, and the replies are those of units that were asked
+-- nothing else
+abbrev pub CommandsInOrder : Type 0
+CommandsInOrder =
+    (c : TargetConfig) (calls : List Call) → AreNumbered calls
+    → ((course c calls).units ≡ units_after (map fresh_unit c.blocks) (requests_of c (events_of calls)))
+    × (replies_of c (events_of calls) ≡ replies (map fresh_unit c.blocks) (requests_of c (events_of calls)))

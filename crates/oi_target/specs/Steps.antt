@@ -1,8 +1,7 @@
 -- What becomes of the PDUs of one connection. The target's links are those of the other connections.
-use Rattle.std.specs.Prelude.{ℕ, Bool, true, false, List, [], ◌∷◌, ◌++◌, map, if◌then◌else◌}
+use Rattle.std.specs.Prelude.{Bool, true, false, List, [], ◌∷◌, ◌++◌, map}
 use Rattle.oi_pdu.specs.declared.codec.Pdu.{Pdu}
 use Rattle.oi_target.specs.Targets.{Target, ended_by, next_handle, nexus_of, reset_links, session_of}
-use Rattle.oi_target.specs.declared.link.Serving.{Serving}
 use Rattle.oi_target.specs.declared.link.Standing.{Standing}
 use Rattle.oi_target.specs.declared.link.Standing.TheVariants as standing
 use Rattle.oi_target_login.specs.Logins.{Turn, turned}

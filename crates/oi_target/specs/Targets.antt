@@ -1,11 +1,11 @@
 -- A test target: its logical units, what a discovery is told, the words from which challenges are drawn, and its connections.
-use Rattle.std.specs.Prelude.{ℕ, ◌+◌, Bool, true, false, not, Option, Some, None, List, [], ◌∷◌, ◌++◌, bytes_eq, map, ◌==◌, if◌then◌else◌}
+use Rattle.std.specs.Prelude.{ℕ, ◌+◌, Bool, false, not, Option, Some, None, List, [], ◌∷◌, ◌++◌, bytes_eq, map, ◌==◌, if◌then◌else◌}
 use Rattle.oi_base.specs.declared.login.Params.{Params}
-use Rattle.oi_base.specs.declared.serial.Serial.{Serial}
 use Rattle.oi_chap.specs.Streams.{stream_start}
 use Rattle.oi_chap.specs.declared.streams.Purpose.TheVariants.{TargetChallenges}
 use Rattle.oi_names.specs.declared.portal.Portal.{Portal}
 use Rattle.oi_sendtargets.specs.declared.found.Found.{Found}
+use Rattle.oi_stream.specs.Bytewise.{unfed}
 use Rattle.oi_stream.specs.Feeding.{State}
 use Rattle.oi_target_login.specs.Logins.{fresh}
 use Rattle.oi_target_login.specs.declared.answer.NewSession.{NewSession}
@@ -14,11 +14,9 @@ use Rattle.oi_target_login.specs.declared.config.LoginRules.{LoginRules}
 use Rattle.oi_target_login.specs.declared.progress.Who.{Who}
 use Rattle.oi_target_session.specs.Sessions.{Session, new_session, reset_by}
 use Rattle.oi_target_session.specs.declared.limits.Limits.{Limits}
-use Rattle.oi_target_session.specs.declared.limits.Numbers.{Numbers}
 use Rattle.oi_target_session.specs.declared.reset.Reset.{Reset}
 use Rattle.oi_target.specs.declared.config.TargetConfig.{TargetConfig}
 use Rattle.oi_target.specs.declared.link.Link.{Link}
-use Rattle.oi_target.specs.declared.link.Serving.{Serving}
 use Rattle.oi_target.specs.declared.link.Standing.{Standing}
 use Rattle.oi_target.specs.declared.link.Standing.TheVariants as standing
 use Rattle.oi_units.specs.Units.{fresh_unit}
@@ -76,9 +74,28 @@ without n (l ∷ ls) = if l.number == n then ls else l ∷ without n ls
 abbrev pub with_links : Target → List Link → Target
 with_links t links = record t { links = links }
 
+abbrev pub link_at : ℕ → State → Standing → Link
+link_at n splitter s = record { number = n; splitter = splitter; standing = s }
+
+-- the connection with the number of this one is this one from now on
+abbrev pub placed : Link → List Link → List Link
+placed k [] = []
+placed k (l ∷ ls) = if l.number == k.number then k ∷ ls else l ∷ placed k ls
+
+-- nothing of a data segment came yet; it may have 65,536 bytes
+abbrev pub no_bytes : State
+no_bytes = unfed 65536
+
 -- a connection of which nothing came yet; StatSN begins at 1
-abbrev pub new_link : ℕ → State → Link
-new_link n splitter = record { number = n; splitter = splitter; standing = standing.LoggingIn (fresh (record { 0 = 1 })) }
+abbrev pub new_link : ℕ → Link
+new_link n = link_at n no_bytes (standing.LoggingIn (fresh (record { 0 = 1 })))
+
+abbrev pub closed_link : ℕ → Link
+closed_link n = link_at n no_bytes standing.Closed
+
+-- a connection whose bytes are being served: in its place stands a closed one
+abbrev pub aside : ℕ → Target → Target
+aside n t = with_links t (placed (closed_link n) t.links)
 
 -- the name of an initiator port: the initiator's name, and behind it the ISID
 abbrev pub nexus_of : Who → List ℕ

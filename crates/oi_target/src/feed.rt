@@ -1,17 +1,19 @@
-ghost use Rattle.std.specs.Prelude.{◌≡◌, ◌++◌, ◌∷◌, [], List, IfOk, OnErr, OnOk};
+ghost use Rattle.std.specs.Prelude.{◌≡◌, ◌++◌, [], IfNone, IfOk, OnErr, OnOk};
 ghost use Rattle.std.specs.List.{prefix_len};
-ghost use Rattle.oi_pdu.specs.declared.codec.Pdu.{Pdu};
-ghost use Rattle.oi_target.specs.Feeding.{Cuts, Feeds, FeedsLink, IsServed, TakesIn, ended_step, link_at, put_back, wire};
-ghost use Rattle.oi_target.specs.Steps.{closing, faulted_fed, faulted_standing};
-ghost use Rattle.oi_target.specs.Targets.{is_other, link_of, with_links, without};
+ghost use Rattle.oi_target.specs.Feeding.{Feeds, IsCutBy, cut_of, put_back, taken, taken_by, taken_ended, taken_open, wire};
+ghost use Rattle.oi_target.specs.Steps.{faulted_fed, faulted_standing, step_of};
+ghost use Rattle.oi_target.specs.Targets.{aside, is_other, link_of, placed, without};
+ghost use Rattle.oi_target_session.specs.declared.fed.Fed.TheVariants as feds;
 
 use crate::link::{Link, Standing};
 use crate::steps::Outcome;
-use crate::target::Target;
+use crate::target::{SEGMENT, Target};
 use oi_base::NoMemory;
 use oi_pdu::Pdu;
 use oi_stream::{Splitter, StreamFault};
 use oi_target_session::Fed;
+use std::alloc::Global;
+use std::mem;
 
 // The place of a connection among all; their count where there is none of this number.
 fn place_of(links: &[Link], connection: u32) -> usize
@@ -23,28 +25,61 @@ fn place_of(links: &[Link], connection: u32) -> usize
         .count()
 }
 
-fn remove_link(links: &mut Vec<Link>, connection: u32) -> Option<Link>
-    ensures links { links.new.items ≡ without connection links.old.items }
-    ensures link { result ≡ link_of connection links.old.items }
+/// Drops a connection, where there is one of this number.
+pub fn remove_link(links: &mut Vec<Link>, connection: u32)
+    ensures { links.new.items ≡ without connection links.old.items }
 {
     let at = place_of(links.as_slice(), connection);
     if at < links.len() {
-        Some(links.remove(at))
+        let _link = links.remove(at);
+    }
+}
+
+// Puts a connection in the place of the one with its number, which it gives back; None where there is none.
+fn replace(links: &mut Vec<Link>, link: Link) -> Option<Link>
+    ensures link { result ≡ link_of link.number links.old.items }
+    ensures links { links.new.items ≡ placed link links.old.items }
+    ensures none { IfNone result (links.new.items ≡ links.old.items) }
+{
+    let at = place_of(links.as_slice(), link.number);
+    if at < links.len() {
+        Some(mem::replace(&mut links[at], link))
     } else {
         None
     }
 }
 
-// Cuts a piece into PDUs, and tells whether a malformed one follows them.
-fn cut(splitter: &mut Splitter, piece: &[u8], pdus: &mut Vec<Pdu>) -> Result<bool, NoMemory>
-    requires { pdus.old.items ≡ [] }
-    ensures { IfOk result (λ fault. Cuts splitter.old splitter.new piece.now pdus.new.items fault) }
+// Whether a malformed PDU follows those that the splitter handed out.
+fn is_fault(answer: Result<(), StreamFault>) -> Result<bool, NoMemory>
+    ensures { IfOk result (λ fault. IsCutBy answer fault) }
 {
-    match splitter.feed(piece, pdus) {
+    match answer {
         Ok(()) => Ok(false),
         Err(StreamFault::Memory) => Err(NoMemory),
-        Err(_) => Ok(true),
+        Err(StreamFault::BadHeader { .. }) => Ok(true),
+        Err(StreamFault::TooLong { .. }) => Ok(true),
+        Err(StreamFault::Ended { .. }) => Ok(true),
     }
+}
+
+// Cuts a piece into PDUs, and tells whether a malformed one follows them, behind which no bytes are kept.
+fn cut(
+    alloc: Global,
+    splitter: &mut Splitter,
+    piece: &[u8],
+    pdus: &mut Vec<Pdu>,
+) -> Result<bool, NoMemory>
+    requires { pdus.old.items ≡ [] }
+    ensures splitter { OnOk result (splitter.new ≡ (cut_of splitter.old piece.now).state) }
+    ensures pdus { OnOk result (pdus.new.items ≡ (cut_of splitter.old piece.now).pdus) }
+    ensures fault { IfOk result (λ fault. fault ≡ (cut_of splitter.old piece.now).fault) }
+{
+    let answer = splitter.feed(piece, pdus);
+    let fault = is_fault(answer)?;
+    if fault {
+        *splitter = Splitter::new(alloc, SEGMENT);
+    }
+    Ok(fault)
 }
 
 // A malformed PDU closes the connection behind those before it.
@@ -77,90 +112,96 @@ fn append(out: &mut Vec<u8>, written: Vec<u8>) -> Result<(), NoMemory>
 }
 
 impl Target {
-    /// Takes a connection out of the others; None where there is none of this number.
-    pub(crate) fn take_out(&mut self, connection: u32) -> Option<Link>
-        ensures links { self.new ≡ with_links self.old (without connection self.old.links) }
+    // A connection, in whose place a closed one stands from now on; None where there is none of this number.
+    fn set_aside(&mut self, connection: u32) -> Option<Link>
         ensures link { result ≡ link_of connection self.old.links }
+        ensures target { self.new ≡ aside connection self.old }
+        ensures none { IfNone result (self.new ≡ self.old) }
     {
-        remove_link(&mut self.links, connection)
+        let closed = Link {
+            number: connection,
+            splitter: Splitter::new(self.alloc, SEGMENT),
+            standing: Standing::Closed,
+        };
+        replace(&mut self.links, closed)
     }
 
-    fn put_back(
-        &mut self,
-        number: u32,
-        splitter: Splitter,
-        standing: Standing,
-    ) -> Result<(), NoMemory>
-        ensures { OnOk result (self.new ≡ with_links self.old (self.old.links ++ link_at number splitter standing ∷ [])) }
+    fn put_back(&mut self, number: u32, splitter: Splitter, standing: Standing)
+        ensures { self.new ≡ put_back number splitter (step_of self.old standing [] feds.Going) }
     {
-        self.links.push(Link {
+        let link = Link {
             number,
             splitter,
             standing,
-        })?;
-        Ok(())
+        };
+        replace(&mut self.links, link);
     }
 
-    // The bytes of a connection that was taken out, cut into PDUs.
-    fn serve_bytes(&mut self, link: Link, piece: &[u8], out: &mut Vec<u8>) -> Result<Fed, NoMemory>
+    // The bytes of a connection that is open, and aside.
+    fn take_open(
+        &mut self,
+        number: u32,
+        link: Link,
+        piece: &[u8],
+        out: &mut Vec<u8>,
+    ) -> Result<Fed, NoMemory>
         requires { out.old.items ≡ [] }
-        ensures { IfOk result (λ fed. (sent : List Pdu) × IsServed self.old link piece.now self.new sent fed × (out.new.items ≡ wire sent)) }
+        ensures target { OnOk result (self.new ≡ (taken_open self.old number link.standing (cut_of link.splitter piece.now)).target) }
+        ensures out { OnOk result (out.new.items ≡ wire (taken_open self.old number link.standing (cut_of link.splitter piece.now)).sent) }
+        ensures fed { IfOk result (λ fed. fed ≡ (taken_open self.old number link.standing (cut_of link.splitter piece.now)).fed) }
     {
         let Link {
-            number,
+            number: _,
             splitter,
             standing,
         } = link;
         let mut splitter = splitter;
         let mut pdus = Vec::new(self.alloc);
-        let fault = cut(&mut splitter, piece, &mut pdus)?;
+        let fault = cut(self.alloc, &mut splitter, piece, &mut pdus)?;
         let outcome = self.steps(standing, pdus, out)?;
         let outcome = faulted(outcome, fault);
-        self.put_back(number, splitter, outcome.standing)?;
+        self.put_back(number, splitter, outcome.standing);
         Ok(outcome.fed)
     }
 
     // The bytes of a connection of which the session was ended.
-    fn serve_ended(&mut self, link: Link, piece: &[u8]) -> Result<Fed, NoMemory>
-        ensures target { OnOk result (self.new ≡ put_back link.number link.splitter (ended_step self.old piece.now)) }
-        ensures fed { IfOk result (λ fed. fed ≡ (ended_step self.old piece.now).fed) }
+    fn take_ended(&mut self, number: u32, link: Link, piece: &[u8]) -> Fed
+        ensures target { self.new ≡ (taken_ended self.old number link.splitter piece.now).target }
+        ensures fed { result ≡ (taken_ended self.old number link.splitter piece.now).fed }
+        ensures sent { (taken_ended self.old number link.splitter piece.now).sent ≡ [] }
     {
         let Link {
-            number,
+            number: _,
             splitter,
             standing: _,
         } = link;
         if piece.is_empty() {
-            self.put_back(number, splitter, Standing::Ended)?;
-            Ok(Fed::Going)
+            self.put_back(number, splitter, Standing::Ended);
+            Fed::Going
         } else {
-            self.put_back(number, splitter, Standing::Closed)?;
-            Ok(Fed::Closed)
+            Fed::Closed
         }
     }
 
-    // A connection that was closed.
-    fn stay_closed(&mut self, link: Link) -> Result<Fed, NoMemory>
-        ensures target { OnOk result (self.new ≡ put_back link.number link.splitter (closing self.old [])) }
-        ensures fed { IfOk result (λ fed. fed ≡ Fed.Closed) }
-    {
-        let Link {
-            number,
-            splitter,
-            standing: _,
-        } = link;
-        self.put_back(number, splitter, Standing::Closed)?;
-        Ok(Fed::Closed)
-    }
-
-    fn take_in(&mut self, link: Link, piece: &[u8], out: &mut Vec<u8>) -> Result<Fed, NoMemory>
+    // The bytes of a connection that is aside.
+    fn take_in(
+        &mut self,
+        number: u32,
+        link: Link,
+        piece: &[u8],
+        out: &mut Vec<u8>,
+    ) -> Result<Fed, NoMemory>
         requires { out.old.items ≡ [] }
-        ensures { IfOk result (λ fed. (sent : List Pdu) × TakesIn self.old link link.standing piece.now self.new sent fed × (out.new.items ≡ wire sent)) }
+        ensures target { OnOk result (self.new ≡ (taken_by self.old number link.splitter link.standing piece.now).target) }
+        ensures out { OnOk result (out.new.items ≡ wire (taken_by self.old number link.splitter link.standing piece.now).sent) }
+        ensures fed { IfOk result (λ fed. fed ≡ (taken_by self.old number link.splitter link.standing piece.now).fed) }
     {
         match link.standing {
-            Standing::Ended => self.serve_ended(link, piece),
-            Standing::Closed => self.stay_closed(link),
-            Standing::LoggingIn(_) | Standing::Serving(_) => self.serve_bytes(link, piece, out),
+            Standing::Ended => Ok(self.take_ended(number, link, piece)),
+            Standing::Closed => Ok(Fed::Closed),
+            Standing::LoggingIn(_) | Standing::Serving(_) => self.take_open(
+                number, link, piece, out,
+            ),
         }
     }
 
@@ -171,12 +212,14 @@ impl Target {
         out: &mut Vec<u8>,
     ) -> Result<Fed, NoMemory>
         requires { out.old.items ≡ [] }
-        ensures { IfOk result (λ fed. FeedsLink (with_links self.old (without connection self.old.links)) (link_of connection self.old.links) piece.now [] out.new.items fed self.new) }
+        ensures target { OnOk result (self.new ≡ (taken self.old connection piece.now).target) }
+        ensures out { OnOk result (out.new.items ≡ wire (taken self.old connection piece.now).sent) }
+        ensures fed { IfOk result (λ fed. fed ≡ (taken self.old connection piece.now).fed) }
     {
-        let Some(link) = self.take_out(connection) else {
+        let Some(link) = self.set_aside(connection) else {
             return Ok(Fed::Closed);
         };
-        self.take_in(link, piece, out)
+        self.take_in(connection, link, piece, out)
     }
 
     /// Takes the bytes that came on a connection, and appends what is to be written on it. `Closed` says that it is to be closed

@@ -1,32 +1,28 @@
-ghost use Rattle.oi_target.specs.Courses.{CoursesAreEvents, CoursesAreFramed};
-ghost use Rattle.oi_target.specs.Events.{CallsAreEvents, FeedsAreEvents};
-ghost use Rattle.oi_target.specs.Runs.{CutsGiveTheSame, PartsComeToTheWhole, PiecesAreFramed, StepsExecute, StepsJoin, WholeIsFramed};
+ghost use Rattle.oi_target.specs.Courses.{CoursesAreEvents, CutsDoNotMatter, PdusAreFramed, WritesAreOfEvents};
+ghost use Rattle.oi_target.specs.Runs.{CommandsInOrder, StepsExecute, StepsJoin};
 ghost use Rattle.oi_target.specs.Shown.{OnlyLoggedInAreServed, OnlyProvedLogIn};
 
-/// What a target does on a connection depends on the bytes and on the order of PDUs, and not on how the bytes were cut: the PDUs
-/// that were served are the framing of all bytes of the connection, and a piece in two parts comes to the same as in one.
+/// A target is a function of what came to it since it was made: connections that were accepted or are gone, listings, and the PDUs
+/// of each connection in the order in which they became whole. What it writes on each connection is, too, and what it will do.
+pub fn calls_are_events()
+    ensures target { CoursesAreEvents }
+    ensures written { WritesAreOfEvents }
+{}
+
+/// The PDUs of a connection are the framing of all its bytes, and it does not matter how these were cut.
 #[tactic(auto, using(crate::proofs::Joins::steps_join))]
 pub fn cuts_do_not_matter()
-    ensures whole { WholeIsFramed }
-    ensures same { CutsGiveTheSame }
-    ensures framed { PiecesAreFramed }
-    ensures parts { PartsComeToTheWhole }
+    ensures cuts { CutsDoNotMatter }
+    ensures framed { PdusAreFramed }
     ensures pdus { StepsJoin }
 {}
 
-/// The logical units change by the commands that are executed alone, one after another.
+/// The logical units change by the commands that are executed alone, one after another, and reply as units that are asked nothing
+/// else.
 #[tactic(auto, using(crate::proofs::Joins::steps_execute))]
 pub fn units_change_by_execution()
-    ensures { StepsExecute }
-{}
-
-/// A target is a function of what came to it: connections that were accepted or are gone, listings, and the PDUs of each connection
-/// in the order in which they became whole. Two targets that differ in the bytes of which no PDU was made yet alone write the same.
-pub fn calls_are_events()
-    ensures whole { CoursesAreEvents }
-    ensures framed { CoursesAreFramed }
-    ensures feeds { FeedsAreEvents }
-    ensures others { CallsAreEvents }
+    ensures whole { CommandsInOrder }
+    ensures steps { StepsExecute }
 {}
 
 /// At a target that asks for CHAP a normal session stands only for an initiator that, in the login that led to it, was challenged and

@@ -2,6 +2,7 @@ ghost use Rattle.std.specs.Prelude.{◌≡◌};
 ghost use Rattle.oi_target.specs.Targets.{stream_of};
 
 use crate::config::TargetConfig;
+use crate::feed::remove_link;
 use crate::link::{Link, Standing};
 use oi_base::{NoMemory, Series};
 use oi_chap::{Purpose, words_for};
@@ -15,7 +16,7 @@ use std::alloc::Global;
 use std::marker::Model;
 
 /// The data segment that a target takes.
-const SEGMENT: u32 = 65_536;
+pub(crate) const SEGMENT: u32 = 65_536;
 
 /// A test target with all its connections.
 #[derive(Debug, Drop)]
@@ -125,7 +126,7 @@ impl Target {
     pub fn gone(&mut self, connection: u32)
         ensures { self.new ≡ with_links self.old (without connection self.old.links) }
     {
-        let _link = self.take_out(connection);
+        remove_link(&mut self.links, connection);
     }
 
     /// A discovery is told these targets from now on.
