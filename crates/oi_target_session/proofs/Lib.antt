@@ -1,5 +1,6 @@
 pub mod Drains
 pub mod Executed
 pub mod Joins
+pub mod Pieces
 pub mod Walked
 pub mod Walks

@@ -8,6 +8,7 @@ mod fed;
 mod laws;
 mod limits;
 mod manage;
+mod parts;
 mod place;
 mod reset;
 mod session;

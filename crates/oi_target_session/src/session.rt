@@ -2,7 +2,7 @@ ghost use Rattle.std.specs.Prelude.{◌≡◌, ◌≤◌, ◌<◌, ◌+◌, ◌+
 ghost use Rattle.std.specs.List.{list_any, position};
 ghost use Rattle.oi_target_session.specs.Answers.{bytes_of};
 ghost use Rattle.oi_target_session.specs.Arrivals.{advanced};
-ghost use Rattle.oi_target_session.specs.Sequences.{AreLimits};
+ghost use Rattle.oi_target_session.specs.Sequences.{AreLimits, data_pdus};
 ghost use Rattle.oi_target_session.specs.Sessions.{and_drained, asking, behind, commanded, counted, data_out, drained, handled, data_at, filled_at, handled_discovering, handled_normally, is_busy, is_unfit, logged_out, new_session, pinged, queued, reply_pdus, served, with_tasks, without_resets};
 ghost use Rattle.oi_target_session.specs.Tasks.{grown, is_stuck, is_waiting, no_task, waits_as};
 ghost use Rattle.oi_target_session.specs.declared.fed.Fed.TheVariants.{Going};
@@ -14,11 +14,12 @@ use crate::fed::Fed;
 use crate::limits::{Limits, Numbers};
 use crate::reset::Reset;
 use crate::task::Task;
-use oi_base::{Blob, NoMemory, Serial};
+use oi_base::{Blob, NoMemory, Serial, Tag};
 use oi_pdu::{DataOut, Header, LogoutRequest, NopOut, Pdu, ScsiCommand, write_pdu};
+use oi_recovery::Residual;
 use oi_reserve::Nexus;
 use oi_sendtargets::Found;
-use oi_units::{UnitCommand, UnitReply, Units};
+use oi_units::{UnitReply, Units};
 use std::alloc::Global;
 use std::collections::VecDeque;
 use std::marker::Model;
@@ -227,6 +228,29 @@ impl Session {
         Ok(())
     }
 
+    // Writes the data of a reply with status GOOD.
+    fn send(
+        &mut self,
+        tag: Tag,
+        residual: Residual,
+        bytes: &[u8],
+        out: &mut Vec<u8>,
+    ) -> Result<(), NoMemory>
+        requires { length bytes.now < 2 ^ 32 }
+        ensures session { OnOk result (self.new ≡ counted self.old) }
+        ensures out { OnOk result (out.new.items ≡ out.old.items ++ bytes_of (data_pdus self.old.limits self.old.numbers tag residual (length bytes.now) 0 0 bytes.now)) }
+    {
+        let source = Source {
+            limits: self.limits,
+            numbers: self.numbers,
+            tag,
+            residual,
+        };
+        write_data(self.alloc, source, bytes, out)?;
+        self.numbers = self.numbers.after_status();
+        Ok(())
+    }
+
     // Writes the reply to a task.
     fn reply(&mut self, task: &Task, reply: &UnitReply, out: &mut Vec<u8>) -> Result<(), NoMemory>
         requires { length reply.now.sent < 2 ^ 32 }
@@ -235,17 +259,30 @@ impl Session {
     {
         if reply.sent.as_slice().is_empty() {
             write_pdu(&response_pdu(self.alloc, self.numbers, task, reply)?, out)?;
+            self.numbers = self.numbers.after_status();
+            Ok(())
         } else {
-            let source = Source {
-                limits: self.limits,
-                numbers: self.numbers,
-                tag: task.tag,
-                residual: reply.residual,
-            };
-            write_data(self.alloc, source, reply.sent.as_slice(), out)?;
+            self.send(task.tag, reply.residual, reply.sent.as_slice(), out)
         }
-        self.numbers = self.numbers.after_status();
-        Ok(())
+    }
+
+    // Executes a task, and writes the reply to it. What a disk sends is copied once, from there to what is written.
+    fn execute(&mut self, units: &mut Units, task: &Task, out: &mut Vec<u8>) -> Result<(), NoMemory>
+        ensures session { OnOk result (self.new ≡ counted self.old) }
+        ensures units { OnOk result (units.new ≡ (executed units.old self.old.nexus task.now.command task.now.payload).units) }
+        ensures out { OnOk result (out.new.items ≡ out.old.items ++ bytes_of (reply_pdus self.old task.now (executed units.old self.old.nexus task.now.command task.now.payload).reply)) }
+    {
+        if let Some(data) = units.lend(&self.nexus, task.command) {
+            self.send(task.tag, data.residual, data.bytes, out)?;
+            return Ok(());
+        }
+        let reply = units.execute(
+            self.alloc,
+            &self.nexus,
+            task.command,
+            task.payload.as_slice(),
+        )?;
+        self.reply(task, &reply, out)
     }
 
     // The first task, where it is to be executed.
@@ -267,13 +304,7 @@ impl Session {
         ensures out { OnOk result (out.new.items ≡ out.old.items ++ bytes_of (drained self.old units.old self.old.tasks).sent) }
     {
         while let Some(task) = self.next_ready() {
-            let reply = units.execute(
-                self.alloc,
-                &self.nexus,
-                task.command,
-                task.payload.as_slice(),
-            )?;
-            self.reply(&task, &reply, out)?;
+            self.execute(units, &task, out)?;
         }
         Ok(())
     }
