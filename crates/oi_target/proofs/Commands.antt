@@ -5,11 +5,16 @@ use Rattle.oi_target.proofs.Courses.{courses_are_events}
 use Rattle.oi_target.proofs.Joins.{step_units}
 use Rattle.oi_target.specs.Courses.{events_of}
 use Rattle.oi_target.specs.Events.{Event, Joined, Left, Told, Whole, Malformed, happened, heard_of, state_after}
-use Rattle.oi_target.specs.Runs.{CommandsInOrder, event_requests, link_requests, replies_of, requests_of}
+use Rattle.oi_target.specs.Runs.{AnswersAreReplies, CommandsInOrder, event_requests, event_sent, link_requests, link_sent, replies_of, requests_of, step_requests, step_sent}
 use Rattle.oi_target.specs.Targets.{Target, aside, link_of}
 use Rattle.oi_target.specs.declared.config.TargetConfig.{TargetConfig}
 use Rattle.oi_target.specs.declared.link.Link.{Link}
+use Rattle.oi_target.specs.Steps.{stepped}
+use Rattle.oi_target.specs.declared.link.Standing.{Standing}
+use Rattle.oi_target.specs.declared.link.Standing.TheVariants as standing
+use Rattle.oi_target_session.proofs.Answered.{replies_are_sent}
 use Rattle.oi_target_session.proofs.Executed.{joined_units}
+use Rattle.oi_target_session.specs.Arrivals.{place_of}
 use Rattle.oi_units.specs.Runs.{Request, replies, units_after}
 use Rattle.oi_units.specs.Units.{executed, fresh_unit}
 use Rattle.oi_units.specs.declared.reply.UnitReply.{UnitReply}
@@ -49,3 +54,21 @@ replies_at c (e ∷ es) =
 pub commands_in_order : CommandsInOrder
 commands_in_order c calls numbered =
     (ap (λ (t : Target). t.units) (courses_are_events c calls numbered) ∙ units_at c (events_of calls), replies_at c (events_of calls))
+
+step_answers : (t : Target) (s : Standing) (p : Pdu) → (stepped t s p).sent ≡ step_sent t s p (replies t.units (step_requests t s p))
+step_answers t (standing.LoggingIn login) p = refl
+step_answers t (standing.Serving v) p =
+    replies_are_sent (place_of v.session.discovers v.session.numbers.exp.0 p.head) v.session t.units t.listing v.held p
+step_answers t standing.Ended p = refl
+step_answers t standing.Closed p = refl
+
+link_answers : (t : Target) (n : ℕ) (o : Option Link) (p : Pdu) → (heard_of t n o p).sent ≡ link_sent t n o p (replies t.units (link_requests t n o p))
+link_answers t n None p = refl
+link_answers t n (Some l) p = step_answers (aside n t) l.standing p
+
+pub answers_are_replies : AnswersAreReplies
+answers_are_replies t (Joined n) = refl
+answers_are_replies t (Left n) = refl
+answers_are_replies t (Told listing) = refl
+answers_are_replies t (Whole n p) = link_answers t n (link_of n t.links) p
+answers_are_replies t (Malformed n) = refl

@@ -2,7 +2,7 @@
 use Rattle.std.specs.Prelude.{◌≡◌, ℕ, Option, Some, None, List, [], ◌∷◌, ◌++◌, map}
 use Rattle.oi_pdu.specs.declared.codec.Pdu.{Pdu}
 use Rattle.oi_target.specs.Courses.{AreNumbered, Call, course, events_of}
-use Rattle.oi_target.specs.Events.{Event, Whole, state_after}
+use Rattle.oi_target.specs.Events.{Event, Whole, happened, state_after}
 use Rattle.oi_target.specs.Steps.{one_then, stepped, steps}
 use Rattle.oi_target.specs.Targets.{Target, aside, link_of}
 use Rattle.oi_target.specs.declared.config.TargetConfig.{TargetConfig}
@@ -10,7 +10,7 @@ use Rattle.oi_target.specs.declared.link.Link.{Link}
 use Rattle.oi_target.specs.declared.link.Standing.{Standing}
 use Rattle.oi_target.specs.declared.link.Standing.TheVariants as standing
 use Rattle.oi_target_session.specs.Arrivals.{place_of}
-use Rattle.oi_target_session.specs.Executions.{if_going, requests_at}
+use Rattle.oi_target_session.specs.Executions.{if_going, requests_at, sent_at}
 use Rattle.oi_units.specs.Runs.{Request, replies, units_after}
 use Rattle.oi_units.specs.Units.{fresh_unit}
 use Rattle.oi_units.specs.declared.reply.UnitReply.{UnitReply}
@@ -63,3 +63,21 @@ CommandsInOrder =
     (c : TargetConfig) (calls : List Call) → AreNumbered calls
     → ((course c calls).units ≡ units_after (map fresh_unit c.blocks) (requests_of c (events_of calls)))
     × (replies_of c (events_of calls) ≡ replies (map fresh_unit c.blocks) (requests_of c (events_of calls)))
+
+-- what an event makes the target send, where these are the replies of the units to its requests
+abbrev pub step_sent : Target → Standing → Pdu → List UnitReply → List Pdu
+step_sent t (standing.Serving v) pdu rs =
+    sent_at (place_of v.session.discovers v.session.numbers.exp.0 pdu.head) v.session t.units t.listing v.held pdu rs
+step_sent t s pdu rs = (stepped t s pdu).sent
+
+abbrev pub link_sent : Target → ℕ → Option Link → Pdu → List UnitReply → List Pdu
+link_sent t n None p rs = []
+link_sent t n (Some l) p rs = step_sent (aside n t) l.standing p rs
+
+abbrev pub event_sent : Target → Event → List UnitReply → List Pdu
+event_sent t (Whole n p) rs = link_sent t n (link_of n t.links) p rs
+event_sent t e rs = []
+
+-- the replies that are sent for each event are the units' at that point: the answers to commands are those of the sequence of all requests
+abbrev pub AnswersAreReplies : Type 0
+AnswersAreReplies = (t : Target) (e : Event) → (happened t e).sent ≡ event_sent t e (replies t.units (event_requests t e))

@@ -1,5 +1,5 @@
 ghost use Rattle.oi_target.specs.Courses.{CoursesAreEvents, CutsDoNotMatter, PdusAreFramed, WritesAreOfEvents};
-ghost use Rattle.oi_target.specs.Runs.{CommandsInOrder, StepsExecute, StepsJoin};
+ghost use Rattle.oi_target.specs.Runs.{AnswersAreReplies, CommandsInOrder, StepsExecute, StepsJoin};
 ghost use Rattle.oi_target.specs.Shown.{OnlyLoggedInAreServed, OnlyProvedLogIn};
 
 /// A target is a function of what came to it since it was made: connections that were accepted or are gone, listings, and the PDUs
@@ -18,10 +18,11 @@ pub fn cuts_do_not_matter()
 {}
 
 /// The logical units change by the commands that are executed alone, one after another, and reply as units that are asked nothing
-/// else.
+/// else. What is sent in answer to commands are these replies.
 #[tactic(auto, using(crate::proofs::Joins::steps_execute))]
 pub fn units_change_by_execution()
     ensures whole { CommandsInOrder }
+    ensures answers { AnswersAreReplies }
     ensures steps { StepsExecute }
 {}
 

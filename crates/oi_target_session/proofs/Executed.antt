@@ -20,7 +20,7 @@ units_join : (units : List LogicalUnit) (first second : List Request) → units_
 units_join units [] second = refl
 units_join units (r ∷ rs) second = units_join (executed units r.nexus r.command r.payload).units rs second
 
-served_units : (s : Session) (units : List LogicalUnit) (listing : List Found) (p : Pdu) → (served s units listing p).units ≡ units_after units (served_requests s units listing p)
+pub served_units : (s : Session) (units : List LogicalUnit) (listing : List Found) (p : Pdu) → (served s units listing p).units ≡ units_after units (served_requests s units listing p)
 served_units s units listing p = go (handled s units listing p.head p.payload).fed where
   h : Handled
   h = handled s units listing p.head p.payload

@@ -1,3 +1,4 @@
+pub mod Answered
 pub mod Drains
 pub mod Executed
 pub mod Joins
