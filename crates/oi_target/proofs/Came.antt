@@ -92,7 +92,7 @@ login_shuts t a verdict.Going e = absurd (let n : ⊥ = cc in n)
 login_shuts t a verdict.Closed e = refl
 login_shuts t a (verdict.Done s) e = absurd (let n : ⊥ = cc in n)
 
-step_shuts : (t : Target) (s : Standing) (p : Pdu) → (stepped t s p).fed ≡ Closed → (stepped t s p).standing ≡ standing.Closed
+pub step_shuts : (t : Target) (s : Standing) (p : Pdu) → (stepped t s p).fed ≡ Closed → (stepped t s p).standing ≡ standing.Closed
 step_shuts t (standing.LoggingIn login) p e =
     login_shuts (with_words t (turned t.rules t.handle login p t.words).words) (turned t.rules t.handle login p t.words).answer
     (turned t.rules t.handle login p t.words).answer.verdict e

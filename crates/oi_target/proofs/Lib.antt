@@ -10,4 +10,5 @@ pub mod Numbered
 pub mod Placed
 pub mod Places
 pub mod Shown
+pub mod Stays
 pub mod Walked

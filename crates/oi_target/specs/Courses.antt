@@ -1,5 +1,5 @@
 -- A target over all calls so far, which did not want memory.
-use Rattle.std.specs.Prelude.{◌≡◌, ℕ, Bool, true, false, List, [], ◌∷◌, ◌++◌, ◌==◌, if◌then◌else◌}
+use Rattle.std.specs.Prelude.{◌≡◌, ℕ, Bool, true, false, Option, Some, None, List, [], ◌∷◌, ◌++◌, ◌==◌, if◌then◌else◌}
 use Rattle.oi_pdu.specs.declared.codec.Pdu.{Pdu}
 use Rattle.oi_sendtargets.specs.declared.found.Found.{Found}
 use Rattle.oi_stream.specs.Bytewise.{Fed as Framed, fed, waits}
@@ -7,8 +7,13 @@ use Rattle.oi_stream.specs.Feeding.{State}
 use Rattle.oi_stream.specs.Framing.{Stop, Short, Frames}
 use Rattle.oi_target.specs.Events.{Event, Joined, Left, Told, Whole, Malformed, bare, pdus_on, sent_to, state_after}
 use Rattle.oi_target.specs.Feeding.{taken, wire, with_new}
-use Rattle.oi_target.specs.Targets.{Target, new_target, no_bytes, with_links, without}
+use Rattle.oi_target.specs.Targets.{Target, link_of, new_target, no_bytes, with_links, without}
 use Rattle.oi_target.specs.declared.config.TargetConfig.{TargetConfig}
+use Rattle.oi_target.specs.declared.link.Link.{Link}
+use Rattle.oi_target.specs.declared.link.Standing.{Standing}
+use Rattle.oi_target.specs.declared.link.Standing.TheVariants as standing
+use Rattle.oi_target_session.specs.declared.fed.Fed.{Fed}
+use Rattle.oi_target_session.specs.declared.fed.Fed.TheVariants.{Going, Closed}
 
 -- the calls: `connected`, `gone`, `list`, and `feed` with its bytes
 pub data Call : Type 0 where
@@ -95,6 +100,22 @@ CoursesAreEvents = (c : TargetConfig) (calls : List Call) → AreNumbered calls 
 abbrev pub WritesAreOfEvents : Type 0
 WritesAreOfEvents =
     (c : TargetConfig) (calls : List Call) (k : ℕ) → AreNumbered calls → written_on k c calls ≡ wire (sent_to k c (events_of calls))
+
+-- whether a connection stays
+abbrev pub stays_at : Standing → Fed
+stays_at (standing.LoggingIn p) = Going
+stays_at (standing.Serving v) = Going
+stays_at s = Closed
+
+abbrev pub stays : Option Link → Fed
+stays None = Closed
+stays (Some l) = stays_at l.standing
+
+-- bytes are answered Closed exactly where the events have closed the connection, or it is not there
+abbrev pub ClosesByEvents : Type 0
+ClosesByEvents =
+    (c : TargetConfig) (calls : List Call) (n b : ℕ) (bs : List ℕ) → AreNumbered calls
+    → (taken (course c calls) n (b ∷ bs)).fed ≡ stays (link_of n (state_after c (events_of (Piece n (b ∷ bs) ∷ calls))).links)
 
 -- a piece in two parts makes the same events as in one, so that what comes later, too, has the same effect
 abbrev pub CutsDoNotMatter : Type 0

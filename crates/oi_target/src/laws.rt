@@ -1,12 +1,14 @@
-ghost use Rattle.oi_target.specs.Courses.{CoursesAreEvents, CutsDoNotMatter, PdusAreFramed, WritesAreOfEvents};
+ghost use Rattle.oi_target.specs.Courses.{ClosesByEvents, CoursesAreEvents, CutsDoNotMatter, PdusAreFramed, WritesAreOfEvents};
 ghost use Rattle.oi_target.specs.Runs.{AnswersAreReplies, CommandsInOrder, StepsExecute, StepsJoin};
 ghost use Rattle.oi_target.specs.Shown.{OnlyLoggedInAreServed, OnlyProvedLogIn};
 
 /// A target is a function of what came to it since it was made: connections that were accepted or are gone, listings, and the PDUs
-/// of each connection in the order in which they became whole. What it writes on each connection is, too, and what it will do.
+/// of each connection in the order in which they became whole. What it writes on each connection is, too, when it closes one, and what
+/// it will do.
 pub fn calls_are_events()
     ensures target { CoursesAreEvents }
     ensures written { WritesAreOfEvents }
+    ensures closed { ClosesByEvents }
 {}
 
 /// The PDUs of a connection are the framing of all its bytes, and it does not matter how these were cut.
