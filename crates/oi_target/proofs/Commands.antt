@@ -5,7 +5,7 @@ use Rattle.oi_target.proofs.Courses.{courses_are_events}
 use Rattle.oi_target.proofs.Joins.{step_units}
 use Rattle.oi_target.specs.Courses.{events_of}
 use Rattle.oi_target.specs.Events.{Event, Joined, Left, Told, Whole, Malformed, happened, heard_of, state_after}
-use Rattle.oi_target.specs.Runs.{AnswersAreReplies, CommandsInOrder, event_requests, event_sent, link_requests, link_sent, replies_of, requests_of, step_requests, step_sent}
+use Rattle.oi_target.specs.Runs.{AnswersAreReplies, CommandsInOrder, event_requests, link_requests, link_sent, replies_of, requests_of, step_requests, step_sent}
 use Rattle.oi_target.specs.Targets.{Target, aside, link_of}
 use Rattle.oi_target.specs.declared.config.TargetConfig.{TargetConfig}
 use Rattle.oi_target.specs.declared.link.Link.{Link}

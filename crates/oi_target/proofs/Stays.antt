@@ -1,17 +1,16 @@
 -- A connection stays just where its standing says so.
-use Rattle.std.proofs.Common.{ℕ, Bool, true, false, ◌≡◌, ◌∙◌, Option, Some, None, List, [], ◌∷◌, map, refl, ap, sym, if◌then◌else◌}
+use Rattle.std.proofs.Common.{ℕ, Bool, true, false, ◌≡◌, ◌∙◌, Option, Some, None, List, [], ◌∷◌, refl, ap, sym}
 use Rattle.oi_pdu.specs.declared.codec.Pdu.{Pdu}
-use Rattle.oi_stream.specs.Feeding.{State}
 use Rattle.oi_target.proofs.Bared.{IsAside, aside_steps, is_aside}
 use Rattle.oi_target.proofs.Came.{step_shuts}
 use Rattle.oi_target.proofs.Courses.{courses_are_events}
 use Rattle.oi_target.proofs.Linked.{is_open}
 use Rattle.oi_target.proofs.Placed.{link_map, link_placed, over}
-use Rattle.oi_target.specs.Courses.{ClosesByEvents, Piece, course, events_of, stays, stays_at}
-use Rattle.oi_target.specs.Events.{bare, bare_link, shut, state_after}
+use Rattle.oi_target.specs.Courses.{ClosesByEvents, Piece, course, stays, stays_at}
+use Rattle.oi_target.specs.Events.{bare_link, shut}
 use Rattle.oi_target.specs.Feeding.{Cut, Taken, cut_of, taken, taken_by, taken_of, taken_open}
 use Rattle.oi_target.specs.Steps.{Step, faulted, logged_in_by, one_then, serving_by, stepped, steps, with_words}
-use Rattle.oi_target.specs.Targets.{Target, aside, closed_link, link_at, link_of, placed}
+use Rattle.oi_target.specs.Targets.{Target, aside, closed_link, link_at, link_of}
 use Rattle.oi_target.specs.declared.link.Link.{Link}
 use Rattle.oi_target.specs.declared.link.Standing.{Standing}
 use Rattle.oi_target.specs.declared.link.Standing.TheVariants as standing

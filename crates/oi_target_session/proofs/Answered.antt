@@ -5,13 +5,12 @@ use Rattle.oi_pdu.specs.declared.codec.Pdu.{Pdu}
 use Rattle.oi_sendtargets.specs.declared.found.Found.{Found}
 use Rattle.oi_target_session.proofs.Executed.{served_units}
 use Rattle.oi_target_session.proofs.Joins.{replies_in_order}
-use Rattle.oi_target_session.specs.Arrivals.{Held, advanced, followed, in_turn, is_held, padded, received_at, unmoved}
-use Rattle.oi_target_session.specs.Executions.{RepliesAreSent, if_going, in_turn_requests, in_turn_sent, requests_at, sent_at, sent_if_going, served_requests, served_sent}
+use Rattle.oi_target_session.specs.Arrivals.{Held, advanced, followed, in_turn, is_held, padded, unmoved}
+use Rattle.oi_target_session.specs.Executions.{RepliesAreSent, if_going, in_turn_requests, in_turn_sent, sent_if_going, served_requests, served_sent}
 use Rattle.oi_target_session.specs.Runs.{ready, replies_sent, request_of}
 use Rattle.oi_target_session.specs.Sessions.{Handled, Session, Turn, and_drained, handled, served}
 use Rattle.oi_target_session.specs.declared.fed.Fed.{Fed}
 use Rattle.oi_target_session.specs.declared.fed.Fed.TheVariants.{Going, Closed}
-use Rattle.oi_target_session.specs.declared.place.Place.{Place}
 use Rattle.oi_target_session.specs.declared.place.Place.TheVariants.{Now, InTurn, Early, Outside}
 use Rattle.oi_units.specs.Runs.{Request, replies, units_after}
 use Rattle.oi_units.specs.Units.{executed}

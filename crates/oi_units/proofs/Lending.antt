@@ -14,7 +14,7 @@ use Rattle.oi_reserve.specs.Outcomes.{reserve_out}
 use Rattle.oi_reserve.specs.Reports.{reserve_in, reserve_in_answer}
 use Rattle.oi_scsi.specs.Commands.{lun_of}
 use Rattle.oi_units.specs.Replies.{conflict_answer, reply_of, reserve_answer, sendable_length}
-use Rattle.oi_units.specs.Units.{Asked, Executed, LentIsExecuted, asked, asked_by, asked_of_disk, by_disk, by_table, executed_on, lent_by, lent_on, lent_reply, place_of, told_by, unit_list, unit_named}
+use Rattle.oi_units.specs.Units.{Asked, LentIsExecuted, asked, asked_of_disk, by_disk, by_table, executed_on, lent_by, lent_on, lent_reply, place_of, told_by, unit_list, unit_named}
 use Rattle.oi_units.specs.declared.command.UnitCommand.{UnitCommand}
 use Rattle.oi_units.specs.declared.reply.UnitReply.{UnitReply}
 use Rattle.oi_units.specs.declared.unit.LogicalUnit.{LogicalUnit}

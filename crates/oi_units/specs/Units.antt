@@ -1,5 +1,5 @@
 -- Logical units asked one command after another (SAM-5, section 5; SPC-4, sections 5.13 and 6.33).
-use Rattle.std.specs.Prelude.{◌≡◌, ℕ, zero, suc, ◌*◌, Bool, Option, Some, None, List, [], ◌∷◌, ◌++◌, bytes_eq, length, replicate, slice_index, take, ◌==◌, if◌then◌else◌}
+use Rattle.std.specs.Prelude.{◌≡◌, ℕ, zero, suc, ◌*◌, Option, Some, None, List, [], ◌∷◌, ◌++◌, bytes_eq, length, replicate, slice_index, take, ◌==◌, if◌then◌else◌}
 use Rattle.std.specs.List.{slice_get, slice_set}
 use Rattle.std.specs.Int.{to_be_bytes, w32}
 use Rattle.oi_base.specs.Limits.{block_length}

@@ -1,4 +1,4 @@
-use Rattle.std.proofs.Common.{◌≡◌, ◌++◌, take}
+use Rattle.std.proofs.Common.{◌≡◌, take}
 use Rattle.oi_target_session.specs.Listings.{listing_text}
 use Rattle.oi_target_session.proofs.text.listing_text.Given as goal
 
