@@ -1,5 +1,5 @@
 -- A flat disk is the list of its bytes, 512 to a block: what one command reads, writes and answers.
-use Rattle.std.specs.Prelude.{◌≡◌, ℕ, ◌+◌, ◌-◌, ◌*◌, ◌/◌, ◌≤◌, List, [], ◌∷◌, ◌++◌, codes, drop, length, take, slice_range, ◌==◌, nat_lt, if◌then◌else◌}
+use Rattle.std.specs.Prelude.{◌≡◌, ℕ, ◌+◌, ◌-◌, ◌*◌, ◌/◌, ◌≤◌, Option, Some, None, List, [], ◌∷◌, ◌++◌, codes, drop, length, take, slice_range, ◌==◌, nat_lt, if◌then◌else◌}
 use Rattle.std.specs.Int.{to_be_bytes, w32}
 use Rattle.oi_base.specs.Limits.{block_length}
 use Rattle.oi_disk.specs.Answers.{address_past_end, bad_field, good, illegal_request, unknown_opcode}
@@ -71,6 +71,19 @@ served_by disk Sync payload = sent disk []
 served_by disk Inquiry payload = sent disk inquiry_data
 served_by disk Capacity payload = sent disk (capacity_data disk)
 served_by disk Unknown payload = refused disk unknown_opcode
+
+-- the bytes of the disk that a READ within its end is sent
+abbrev pub lent_read : List ℕ → ℕ → ℕ → Option (List ℕ)
+lent_read disk lba blocks =
+    if nat_lt (block_count disk) (lba + blocks) then None
+    else Some (slice_range disk (block_length * lba) (block_length * lba + block_length * blocks))
+
+abbrev pub lent_by : List ℕ → Command → Option (List ℕ)
+lent_by disk (Read lba blocks) = lent_read disk lba blocks
+lent_by disk c = None
+
+abbrev pub lent : List ℕ → List ℕ → Option (List ℕ)
+lent disk cdb = lent_by disk (command_of cdb)
 
 -- a command is its CDB and its data
 abbrev pub disk_answer : List ℕ → List ℕ → List ℕ → Served

@@ -1,12 +1,12 @@
-ghost use Rattle.std.specs.Prelude.{◌≡◌, ◌*◌, ◌≤◌, ◌++◌, IfOk, OnErr, OnOk, replicate};
+ghost use Rattle.std.specs.Prelude.{◌≡◌, ◌*◌, ◌≤◌, ◌++◌, IfNone, IfOk, IfSome, None, OnErr, OnOk, Some, replicate};
 ghost use Rattle.oi_base.specs.Limits.{block_length};
 ghost use Rattle.oi_disk.specs.Commands.{IsDiskCommand};
-ghost use Rattle.oi_disk.specs.Disks.{disk_answer, least_disk, most_disk};
+ghost use Rattle.oi_disk.specs.Disks.{disk_answer, least_disk, lent, most_disk};
 
 use crate::answer::{DiskAnswer, good, illegal_request};
 use crate::blocks::BLOCK;
 use crate::command::{Command, read_command};
-use crate::serve::{UNKNOWN_OPCODE, capacity_data, inquiry_data, read, send, write};
+use crate::serve::{UNKNOWN_OPCODE, capacity_data, inquiry_data, lend_blocks, read, send, write};
 use oi_base::NoMemory;
 use std::alloc::Global;
 use std::marker::Model;
@@ -38,6 +38,22 @@ impl FlatDisk {
         Ok(FlatDisk {
             bytes: vec![in alloc; 0u8; BLOCK * blocks as usize]?,
         })
+    }
+
+    /// The bytes that a READ within the disk's end is sent, which stay where they are; None for any other command.
+    pub fn lend(&self, cdb: &[u8; 16]) -> Option<&[u8]>
+        ensures some { IfSome result (λ b. lent self.now cdb.now ≡ Some b.now) }
+        ensures none { IfNone result (lent self.now cdb.now ≡ None) }
+    {
+        match read_command(cdb) {
+            Command::Read { lba, blocks } => lend_blocks(&self.bytes, lba, blocks),
+            Command::Write { .. }
+            | Command::Ready
+            | Command::Sync
+            | Command::Inquiry
+            | Command::Capacity
+            | Command::Unknown => None,
+        }
     }
 
     /// Serves one command with the data that came for it, and appends what it sends to `out`, before any cut at the

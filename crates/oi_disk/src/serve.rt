@@ -1,6 +1,6 @@
-ghost use Rattle.std.specs.Prelude.{◌≡◌, ◌≤◌, ◌++◌, IfOk, OnErr, OnOk};
+ghost use Rattle.std.specs.Prelude.{◌≡◌, ◌≤◌, ◌++◌, IfNone, IfOk, IfSome, None, OnErr, OnOk, Some};
 ghost use Rattle.oi_disk.specs.Answers.{good};
-ghost use Rattle.oi_disk.specs.Disks.{block_count, capacity_data, inquiry_data, most_disk, read_served, write_served};
+ghost use Rattle.oi_disk.specs.Disks.{block_count, capacity_data, inquiry_data, lent_read, most_disk, read_served, write_served};
 
 use crate::answer::{DiskAnswer, good, illegal_request};
 use crate::blocks::{BLOCK, blocks_of, is_past_end, overwrite};
@@ -28,6 +28,17 @@ pub fn read(
         return illegal_request(alloc, ADDRESS_PAST_END);
     }
     send(alloc, blocks_of(disk, lba, blocks), out)
+}
+
+pub fn lend_blocks(disk: &[u8], lba: u64, blocks: u32) -> Option<&[u8]>
+    ensures some { IfSome result (λ b. lent_read disk.now lba blocks ≡ Some b.now) }
+    ensures none { IfNone result (lent_read disk.now lba blocks ≡ None) }
+{
+    if is_past_end(disk, lba, blocks) {
+        None
+    } else {
+        Some(blocks_of(disk, lba, blocks))
+    }
 }
 
 pub fn write(

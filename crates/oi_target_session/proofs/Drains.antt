@@ -1,14 +1,18 @@
 -- Commands are executed one after another.
-use Rattle.std.proofs.Common.{ℕ, Bool, false, ◌≡◌, ◌∙◌, List, [], ◌∷◌, ◌++◌, refl, ap, sym, subst, append_assoc, if◌then◌else◌}
+use Rattle.std.proofs.Common.{ℕ, Bool, true, false, ◌≡◌, ◌∙◌, ◌<◌, ◌==◌, Some, List, [], ◌∷◌, ◌++◌, length, refl, ap, sym, subst, append_assoc, arith, if◌then◌else◌}
+use Rattle.std.proofs.lemmas.Bool.{eqb-true}
 use Rattle.std.proofs.lemmas.Grind.{flat_map-append}
 use Rattle.oi_pdu.specs.Wire.{encoding}
 use Rattle.oi_pdu.specs.declared.codec.Pdu.{Pdu}
-use Rattle.oi_target_session.specs.Answers.{bytes_of}
+use Rattle.oi_target_session.specs.Answers.{bytes_of, response_pdu}
+use Rattle.oi_target_session.specs.Sequences.{data_pdus}
 use Rattle.oi_target_session.specs.Sessions.{Session, Turn, behind, counted, drained, reply_pdus, with_tasks}
 use Rattle.oi_target_session.specs.Tasks.{is_waiting}
 use Rattle.oi_target_session.specs.declared.fed.Fed.TheVariants.{Going}
 use Rattle.oi_target_session.specs.declared.task.Task.{Task}
-use Rattle.oi_units.specs.Units.{executed}
+use Rattle.oi_units.proofs.Lending.{lent_is_executed}
+use Rattle.oi_units.specs.Units.{Executed, executed, lent}
+use Rattle.oi_units.specs.declared.command.UnitCommand.{UnitCommand}
 use Rattle.oi_units.specs.declared.reply.UnitReply.{UnitReply}
 use Rattle.oi_units.specs.declared.unit.LogicalUnit.{LogicalUnit}
 
@@ -70,3 +74,25 @@ drains_on s units units' written written' first before t s' s'' r who payload wh
     (subst (λ (z : Session). Drains (counted z) (executed units z.nexus t.command t.payload).units
     (written ++ bytes_of (reply_pdus z t (executed units z.nexus t.command t.payload).reply)) first before) (sym rest)
     (drains_step s units written first before t s'.tasks front ready d))
+
+-- a task that is lent its data
+pub lent_is : (units : List LogicalUnit) (who nexus : List ℕ) (c : UnitCommand) (payload : List ℕ) (r : UnitReply) → who ≡ nexus → lent units who c ≡ Some r
+    → executed units nexus c payload ≡ record { reply = r; units = units }
+lent_is units who nexus c payload r same h = lent_is_executed units nexus c payload r (subst (λ (z : List ℕ). lent units z c ≡ Some r) same h)
+
+-- a reply with data
+some_data : (s : Session) (t : Task) (r : UnitReply) → 0 < length r.sent → reply_pdus s t r ≡ data_pdus s.limits s.numbers t.tag r.residual (length r.sent) 0 0 r.sent
+some_data s t r some = go (length r.sent == 0) refl where
+  go : (b : Bool) → (length r.sent == 0) ≡ b
+      → (if b then response_pdu s.numbers t r ∷ [] else data_pdus s.limits s.numbers t.tag r.residual (length r.sent) 0 0 r.sent)
+      ≡ data_pdus s.limits s.numbers t.tag r.residual (length r.sent) 0 0 r.sent
+  go true is = absurd (let none : length r.sent ≡ 0 = eqb-true (length r.sent) 0 is in omega arith)
+  go false is = refl
+
+pub lent_out : (s : Session) (units : List LogicalUnit) (who : List ℕ) (t : Task) (r : UnitReply) (written before : List ℕ) → who ≡ s.nexus
+    → lent units who t.command ≡ Some r → 0 < length r.sent
+    → written ≡ before ++ bytes_of (data_pdus s.limits s.numbers t.tag r.residual (length r.sent) 0 0 r.sent)
+    → written ≡ before ++ bytes_of (reply_pdus s t (executed units s.nexus t.command t.payload).reply)
+lent_out s units who t r written before same h some writes =
+    writes ∙ ap (λ (ps : List Pdu). before ++ bytes_of ps) (sym (some_data s t r some))
+    ∙ ap (λ (e : Executed). before ++ bytes_of (reply_pdus s t e.reply)) (sym (lent_is units who s.nexus t.command t.payload r same h))

@@ -1,6 +1,7 @@
 -- Runs in two parts, and commands in order.
 use Rattle.std.proofs.Common.{Bool, true, false, ◌≡◌, ◌∙◌, List, [], ◌∷◌, ◌++◌, refl, ap, sym, map, append_assoc, if◌then◌else◌}
 use Rattle.oi_pdu.specs.declared.codec.Pdu.{Pdu}
+use Rattle.oi_sendtargets.specs.declared.found.Found.{Found}
 use Rattle.oi_target_session.specs.Arrivals.{Received, ahead_of, received}
 use Rattle.oi_target_session.specs.Runs.{RepliesInOrder, RunsJoin, UnitsInOrder, one_then, ready, replies_sent, request_of, run}
 use Rattle.oi_target_session.specs.Sessions.{behind, counted, drained, reply_pdus, with_tasks}
@@ -19,23 +20,23 @@ after_both Going Going a b c is was =
     ∙ ap (λ (z : Fed). one_then z (ahead_of a.sent b) c) was
 
 -- the state after two parts, where the first one did not close, is that after the second one
-same_end : (f : Fed) (a b : Received) (qs : List Pdu) → f ≡ a.fed
-    → one_then (one_then f a b).fed (one_then f a b) (run b.session b.units b.held qs)
-    ≡ one_then (one_then f a b).fed (one_then f a b) (run (one_then f a b).session (one_then f a b).units (one_then f a b).held qs)
-same_end Going a b qs is = refl
-same_end Closed a b qs is = ap (λ (z : Fed). one_then z a (run b.session b.units b.held qs)) (sym is) ∙ ap (λ (z : Fed). one_then z a (run a.session a.units a.held qs)) is
+same_end : (listing : List Found) (f : Fed) (a b : Received) (qs : List Pdu) → f ≡ a.fed
+    → one_then (one_then f a b).fed (one_then f a b) (run b.session b.units listing b.held qs)
+    ≡ one_then (one_then f a b).fed (one_then f a b) (run (one_then f a b).session (one_then f a b).units listing (one_then f a b).held qs)
+same_end listing Going a b qs is = refl
+same_end listing Closed a b qs is = ap (λ (z : Fed). one_then z a (run b.session b.units listing b.held qs)) (sym is) ∙ ap (λ (z : Fed). one_then z a (run a.session a.units listing a.held qs)) is
 
 pub runs_join : RunsJoin
-runs_join s units held [] qs = refl
-runs_join s units held (p ∷ ps) qs =
-    ap (λ (z : Received). one_then r.fed r z) (runs_join r.session r.units r.held ps qs)
-    ∙ after_both r.fed b.fed r b (run b.session b.units b.held qs) refl refl
-    ∙ same_end r.fed r b qs refl where
+runs_join s units listing held [] qs = refl
+runs_join s units listing held (p ∷ ps) qs =
+    ap (λ (z : Received). one_then r.fed r z) (runs_join r.session r.units listing r.held ps qs)
+    ∙ after_both r.fed b.fed r b (run b.session b.units listing b.held qs) refl refl
+    ∙ same_end listing r.fed r b qs refl where
       r : Received
-      r = received s units held p
+      r = received s units listing held p
 
       b : Received
-      b = run r.session r.units r.held ps
+      b = run r.session r.units listing r.held ps
 
 pub units_in_order : UnitsInOrder
 units_in_order s units [] = refl

@@ -1,5 +1,7 @@
+pub mod Answered
 pub mod Drains
 pub mod Executed
 pub mod Joins
+pub mod Pieces
 pub mod Walked
 pub mod Walks

@@ -1,11 +1,12 @@
 -- The data of a command, from a place on.
-use Rattle.std.proofs.Common.{ℕ, zero, suc, ◌≡◌, ◌≤◌, ◌<◌, ◌+◌, ◌%◌, ◌^◌, List, [], ◌∷◌, ◌++◌, length, drop, refl, arith, sym, ◌∙◌, append_assoc, append-nil, length-drop, Bool, true, false, ◌==◌}
+use Rattle.std.proofs.Common.{ℕ, zero, suc, ◌≡◌, ◌≤◌, ◌<◌, ◌+◌, ◌%◌, ◌^◌, List, [], ◌∷◌, ◌++◌, length, drop, take, refl, arith, sym, ◌∙◌, append_assoc, append-nil, length-drop, Bool, true, false, ◌==◌}
 use Rattle.oi_base.specs.declared.tag.Tag.{Tag}
 use Rattle.oi_pdu.specs.Wire.{encoding}
 use Rattle.oi_pdu.specs.declared.codec.Pdu.{Pdu}
+use Rattle.oi_pdu.specs.declared.header.Header.{Header}
 use Rattle.oi_recovery.specs.declared.hit.Residual.{Residual}
 use Rattle.oi_target_session.specs.Answers.{bytes_of}
-use Rattle.oi_target_session.specs.Sequences.{data_pdus, piece_pdu, piece_size}
+use Rattle.oi_target_session.specs.Sequences.{data_pdus, piece_head, piece_pdu, piece_size}
 use Rattle.oi_target_session.specs.declared.limits.Limits.{Limits}
 use Rattle.oi_target_session.specs.declared.limits.Numbers.{Numbers}
 
@@ -54,3 +55,9 @@ some_left (x ∷ xs) empty is no_empty = omega arith
 pub none_left : (rest : List ℕ) (empty : Bool) → empty ≡ (length rest == 0) → empty ≡ true → length rest ≡ 0
 none_left [] empty is empties = refl
 none_left (x ∷ xs) empty is empties = absurd (grind (arith, is, empties))
+
+-- the piece in its parts
+pub piece_is : (l : Limits) (n : Numbers) (t : Tag) (r : Residual) (number at size : ℕ) (rest : List ℕ) (h : Header)
+    → h ≡ piece_head l n t r number at (length rest) → size ≡ piece_size l at (length rest)
+    → record { head = h; payload = take size rest } ≡ piece_pdu l n t r number at rest
+piece_is l n t r number at size rest h is sized = rw (is, sized)

@@ -1,5 +1,5 @@
 -- The PDUs that a target answers with (RFC 7143, sections 11.4 to 11.8, 11.15 and 11.19).
-use Rattle.std.specs.Prelude.{ℕ, ◌+◌, ◌-◌, ◌%◌, ◌^◌, Bool, true, false, List, [], ◌++◌, length, min, replicate, take, flat_map, ◌==◌, if◌then◌else◌}
+use Rattle.std.specs.Prelude.{ℕ, ◌+◌, ◌-◌, ◌%◌, ◌^◌, Bool, true, false, not, List, [], ◌++◌, length, min, replicate, take, flat_map, ◌==◌, if◌then◌else◌}
 use Rattle.std.specs.Int.{to_be_bytes, w16}
 use Rattle.oi_base.specs.Serials.{predecessor, successor}
 use Rattle.oi_base.specs.declared.serial.Serial.{Serial}
@@ -101,4 +101,20 @@ abbrev pub logout_pdu : Numbers → Tag → Pdu
 logout_pdu n tag = record {
   head = head.LogoutResponse (record { response = 0; tag = tag; stat = n.stat; exp = n.exp; max = max_number n; time2wait = 0; time2retain = 0 });
   payload = [];
+}
+
+-- a part of a discovery's text; the initiator asks for the next one under transfer tag 1
+abbrev pub text_pdu : Numbers → Tag → Bool → Bool → List ℕ → Pdu
+text_pdu n tag more unended payload = record {
+  head = head.TextResponse (record {
+    last = not unended;
+    more = more;
+    lun = no_lun;
+    tag = tag;
+    ttt = if unended then 1 else no_tag;
+    stat = n.stat;
+    exp = n.exp;
+    max = max_number n;
+  });
+  payload = payload;
 }

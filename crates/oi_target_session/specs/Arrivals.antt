@@ -1,11 +1,12 @@
 -- Commands come in the order of their CmdSN (RFC 7143, section 4.2.2.1). A PDU that is early is held until those before it
 -- came; one outside the window, and one whose number came before, closes the connection.
-use Rattle.std.specs.Prelude.{ℕ, suc, ◌-◌, Bool, false, Option, Some, None, is_some, List, [], ◌∷◌, ◌++◌, length, replicate, slice_set, ◌==◌, nat_lt, if◌then◌else◌}
+use Rattle.std.specs.Prelude.{ℕ, suc, ◌-◌, Bool, false, not, ◌||◌, Option, Some, None, is_some, List, [], ◌∷◌, ◌++◌, length, replicate, slice_set, ◌==◌, nat_lt, if◌then◌else◌}
 use Rattle.std.specs.List.{slice_get}
 use Rattle.oi_base.specs.Serials.{distance, successor}
 use Rattle.oi_pdu.specs.declared.codec.Pdu.{Pdu}
 use Rattle.oi_pdu.specs.declared.header.Header.{Header}
 use Rattle.oi_pdu.specs.declared.header.Header.TheVariants as head
+use Rattle.oi_sendtargets.specs.declared.found.Found.{Found}
 use Rattle.oi_target_session.specs.Sessions.{Session, Turn, served}
 use Rattle.oi_target_session.specs.declared.fed.Fed.{Fed}
 use Rattle.oi_target_session.specs.declared.fed.Fed.TheVariants.{Going, Closed}
@@ -25,13 +26,15 @@ place_ahead ahead = if ahead == 0 then InTurn else (if nat_lt ahead window then 
 abbrev pub place_by : ℕ → Bool → ℕ → Place
 place_by exp immediate number = if immediate then Now else place_ahead (distance exp number)
 
--- Data-Out has no number, and the others have no place in a normal session
-abbrev pub place_of : ℕ → Header → Place
-place_of exp (head.NopOut h) = place_by exp h.immediate h.cmdsn.0
-place_of exp (head.ScsiCommand h) = place_by exp h.immediate h.cmdsn.0
-place_of exp (head.TaskManagement h) = place_by exp h.immediate h.cmdsn.0
-place_of exp (head.LogoutRequest h) = place_by exp h.immediate h.cmdsn.0
-place_of exp h = Now
+-- Data-Out has no number. A PDU that has no place in the session closes the connection at once: commands and task management in
+-- a discovery, a Text Request in a normal session, and all others
+abbrev pub place_of : Bool → ℕ → Header → Place
+place_of discovers exp (head.NopOut h) = place_by exp h.immediate h.cmdsn.0
+place_of discovers exp (head.ScsiCommand h) = place_by exp (h.immediate || discovers) h.cmdsn.0
+place_of discovers exp (head.TaskManagement h) = place_by exp (h.immediate || discovers) h.cmdsn.0
+place_of discovers exp (head.LogoutRequest h) = place_by exp h.immediate h.cmdsn.0
+place_of discovers exp (head.TextRequest h) = place_by exp (h.immediate || not discovers) h.cmdsn.0
+place_of discovers exp h = Now
 
 -- the PDUs that are held, by how far they are behind the next one; None where none came yet
 abbrev pub Held : Type 0
@@ -53,14 +56,7 @@ ahead_of sent r = record { session = r.session; units = r.units; held = r.held; 
 
 -- the number that is expected came
 abbrev pub advanced : Session → Session
-advanced s = record {
-  nexus = s.nexus;
-  limits = s.limits;
-  numbers = record { exp = record { 0 = successor s.numbers.exp.0 }; stat = s.numbers.stat };
-  transfer = s.transfer;
-  tasks = s.tasks;
-  resets = s.resets;
-}
+advanced s = record s { numbers = record { exp = record { 0 = successor s.numbers.exp.0 }; stat = s.numbers.stat } }
 
 -- where the connection stays
 abbrev pub followed : Fed → Held → Turn → Received → Received
@@ -68,12 +64,12 @@ followed Closed held t rest = holding held t
 followed Going held t rest = ahead_of t.sent rest
 
 -- PDUs in turn: those that are held and follow it at once are served behind it
-abbrev pub in_turn : Session → List LogicalUnit → Pdu → Held → Received
-in_turn s units p [] = holding [] (served (advanced s) units p)
-in_turn s units p (None ∷ held) = holding held (served (advanced s) units p)
-in_turn s units p (Some next ∷ held) =
-    followed (served (advanced s) units p).fed held (served (advanced s) units p)
-    (in_turn (served (advanced s) units p).session (served (advanced s) units p).units next held)
+abbrev pub in_turn : Session → List LogicalUnit → List Found → Pdu → Held → Received
+in_turn s units listing p [] = holding [] (served (advanced s) units listing p)
+in_turn s units listing p (None ∷ held) = holding held (served (advanced s) units listing p)
+in_turn s units listing p (Some next ∷ held) =
+    followed (served (advanced s) units listing p).fed held (served (advanced s) units listing p)
+    (in_turn (served (advanced s) units listing p).session (served (advanced s) units listing p).units listing next held)
 
 -- the places up to this one are there
 abbrev pub padded : ℕ → Held → Held
@@ -86,13 +82,13 @@ is_held (Some slot) = is_some slot
 abbrev pub unmoved : Session → List LogicalUnit → Held → Fed → Received
 unmoved s units held fed = record { session = s; units = units; held = held; sent = []; fed = fed }
 
-abbrev pub received_at : Place → Session → List LogicalUnit → Held → Pdu → Received
-received_at Now s units held p = holding held (served s units p)
-received_at InTurn s units held p = in_turn s units p held
-received_at (Early at) s units held p =
+abbrev pub received_at : Place → Session → List LogicalUnit → List Found → Held → Pdu → Received
+received_at Now s units listing held p = holding held (served s units listing p)
+received_at InTurn s units listing held p = in_turn s units listing p held
+received_at (Early at) s units listing held p =
     if is_held (slice_get held at) then unmoved s units held Closed
     else unmoved s units (slice_set (padded at held) at (Some p)) Going
-received_at Outside s units held p = unmoved s units held Closed
+received_at Outside s units listing held p = unmoved s units held Closed
 
-abbrev pub received : Session → List LogicalUnit → Held → Pdu → Received
-received s units held p = received_at (place_of s.numbers.exp.0 p.head) s units held p
+abbrev pub received : Session → List LogicalUnit → List Found → Held → Pdu → Received
+received s units listing held p = received_at (place_of s.discovers s.numbers.exp.0 p.head) s units listing held p

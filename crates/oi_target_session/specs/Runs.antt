@@ -1,6 +1,7 @@
 -- All PDUs of a connection, one after another; and the commands that are executed, in the words of the units.
 use Rattle.std.specs.Prelude.{ℕ, ◌≡◌, List, [], ◌∷◌, ◌++◌, map, if◌then◌else◌}
 use Rattle.oi_pdu.specs.declared.codec.Pdu.{Pdu}
+use Rattle.oi_sendtargets.specs.declared.found.Found.{Found}
 use Rattle.oi_target_session.specs.Arrivals.{Held, Received, ahead_of, received, unmoved}
 use Rattle.oi_target_session.specs.Sessions.{Session, counted, drained, reply_pdus}
 use Rattle.oi_target_session.specs.Tasks.{is_waiting}
@@ -17,19 +18,19 @@ one_then Closed r rest = r
 one_then Going r rest = ahead_of r.sent rest
 
 -- PDUs in the order in which they came, up to the one that closes the connection
-abbrev pub run : Session → List LogicalUnit → Held → List Pdu → Received
-run s units held [] = unmoved s units held Going
-run s units held (p ∷ ps) =
-    one_then (received s units held p).fed (received s units held p)
-    (run (received s units held p).session (received s units held p).units (received s units held p).held ps)
+abbrev pub run : Session → List LogicalUnit → List Found → Held → List Pdu → Received
+run s units listing held [] = unmoved s units held Going
+run s units listing held (p ∷ ps) =
+    one_then (received s units listing held p).fed (received s units listing held p)
+    (run (received s units listing held p).session (received s units listing held p).units listing (received s units listing held p).held ps)
 
 -- PDUs that came in two parts come to the same as in one
 abbrev pub RunsJoin : Type 0
 RunsJoin =
-    (s : Session) (units : List LogicalUnit) (held : Held) (ps qs : List Pdu)
-    → run s units held (ps ++ qs)
-    ≡ one_then (run s units held ps).fed (run s units held ps)
-    (run (run s units held ps).session (run s units held ps).units (run s units held ps).held qs)
+    (s : Session) (units : List LogicalUnit) (listing : List Found) (held : Held) (ps qs : List Pdu)
+    → run s units listing held (ps ++ qs)
+    ≡ one_then (run s units listing held ps).fed (run s units listing held ps)
+    (run (run s units listing held ps).session (run s units listing held ps).units listing (run s units listing held ps).held qs)
 
 -- the tasks at the front whose data are complete
 abbrev pub ready : List Task → List Task

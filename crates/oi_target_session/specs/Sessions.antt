@@ -1,5 +1,5 @@
 -- One session in its full feature phase: what becomes of each PDU of its connection (RFC 7143, sections 4.2 and 11).
-use Rattle.std.specs.Prelude.{ℕ, Bool, ◌&&◌, ◌||◌, not, Option, Some, None, is_some, List, [], ◌∷◌, ◌++◌, filter, length, slice_get, slice_set, take, bytes_eq, ◌==◌, nat_lt, if◌then◌else◌}
+use Rattle.std.specs.Prelude.{ℕ, Bool, true, false, ◌&&◌, ◌||◌, not, Option, Some, None, is_some, List, [], ◌∷◌, ◌++◌, drop, filter, length, slice_get, slice_set, take, bytes_eq, ◌==◌, nat_lt, if◌then◌else◌}
 use Rattle.std.specs.List.{list_any, position}
 use Rattle.oi_base.specs.Serials.{successor}
 use Rattle.oi_base.specs.declared.tag.Tag.{Tag}
@@ -11,8 +11,12 @@ use Rattle.oi_pdu.specs.declared.header.LogoutRequest.{LogoutRequest}
 use Rattle.oi_pdu.specs.declared.header.NopOut.{NopOut}
 use Rattle.oi_pdu.specs.declared.header.ScsiCommand.{ScsiCommand}
 use Rattle.oi_pdu.specs.declared.header.TaskManagement.{TaskManagement}
-use Rattle.oi_target_session.specs.Answers.{after_status, echo_pdu, logout_pdu, no_tag, r2t_pdu, response_pdu, task_response_pdu}
-use Rattle.oi_target_session.specs.Sequences.{data_pdus}
+use Rattle.oi_pdu.specs.declared.header.TextRequest.{TextRequest}
+use Rattle.oi_sendtargets.specs.declared.found.Found.{Found}
+use Rattle.oi_target_login.specs.Texts.{text_pairs}
+use Rattle.oi_target_session.specs.Answers.{after_status, echo_pdu, logout_pdu, no_tag, r2t_pdu, response_pdu, task_response_pdu, text_pdu}
+use Rattle.oi_target_session.specs.Listings.{is_long, listing_text}
+use Rattle.oi_target_session.specs.Sequences.{data_pdus, usable}
 use Rattle.oi_target_session.specs.Tasks.{asking_by, grown, is_asking, is_stray, is_waiting, new_task, waits_as}
 use Rattle.oi_target_session.specs.declared.fed.Fed.{Fed}
 use Rattle.oi_target_session.specs.declared.fed.Fed.TheVariants.{Going, Closed}
@@ -23,17 +27,36 @@ use Rattle.oi_target_session.specs.declared.reset.Reset.TheVariants.{Unit as OfU
 use Rattle.oi_target_session.specs.declared.task.Task.{Task}
 use Rattle.oi_units.specs.Units.{executed, unit_named}
 use Rattle.oi_units.specs.declared.reply.UnitReply.{UnitReply}
+use Rattle.oi_text.specs.declared.pairs.Pair.{Pair}
 use Rattle.oi_units.specs.declared.unit.LogicalUnit.{LogicalUnit}
 
--- the initiator port, what the login settled, ExpCmdSN and StatSN, the next target transfer tag, the commands that were
--- not executed yet in order, and the resets that other sessions of the target have to learn of
+-- the initiator port, whether the session is a discovery, what the login settled, ExpCmdSN and StatSN, the next target
+-- transfer tag, the commands that were not executed yet in order, the resets that other sessions of the target have to learn
+-- of, and of a discovery the text of the initiator so far and what is left of the target's text
 pub record Session : Type 0 where
   pub nexus : List ℕ
+  pub discovers : Bool
   pub limits : Limits
   pub numbers : Numbers
   pub transfer : ℕ
   pub tasks : List Task
   pub resets : List Reset
+  pub text : List ℕ
+  pub left : List ℕ
+
+-- as a login opens it; target transfer tags count from 1
+abbrev pub new_session : List ℕ → Bool → Limits → Numbers → Session
+new_session nexus discovers limits numbers = record {
+  nexus = nexus;
+  discovers = discovers;
+  limits = usable limits;
+  numbers = numbers;
+  transfer = 1;
+  tasks = [];
+  resets = [];
+  text = [];
+  left = [];
+}
 
 -- what becomes of a PDU: the session and the units afterwards, the PDUs that are sent, and whether the connection stays
 pub record Turn : Type 0 where
@@ -57,17 +80,17 @@ closes s = record { session = s; sent = []; fed = Closed }
 
 -- a status was sent
 abbrev pub counted : Session → Session
-counted s = record { nexus = s.nexus; limits = s.limits; numbers = after_status s.numbers; transfer = s.transfer; tasks = s.tasks; resets = s.resets }
+counted s = record s { numbers = after_status s.numbers }
 
 abbrev pub with_tasks : Session → List Task → Session
-with_tasks s tasks = record { nexus = s.nexus; limits = s.limits; numbers = s.numbers; transfer = s.transfer; tasks = tasks; resets = s.resets }
+with_tasks s tasks = record s { tasks = tasks }
 
 -- a transfer tag was given away
 abbrev pub with_transfer : Session → List Task → Session
-with_transfer s tasks = record { nexus = s.nexus; limits = s.limits; numbers = s.numbers; transfer = successor s.transfer; tasks = tasks; resets = s.resets }
+with_transfer s tasks = record s { transfer = successor s.transfer; tasks = tasks }
 
 abbrev pub with_reset : Session → List Task → Reset → Session
-with_reset s tasks reset = record { nexus = s.nexus; limits = s.limits; numbers = after_status s.numbers; transfer = s.transfer; tasks = tasks; resets = s.resets ++ reset ∷ [] }
+with_reset s tasks reset = record s { numbers = after_status s.numbers; tasks = tasks; resets = s.resets ++ reset ∷ [] }
 
 -- a task asks by the next transfer tag
 abbrev pub asking : Session → Task → Task
@@ -75,7 +98,7 @@ asking s t = asking_by s.transfer s.limits.max_burst t
 
 -- the resets were told
 abbrev pub without_resets : Session → Session
-without_resets s = record { nexus = s.nexus; limits = s.limits; numbers = s.numbers; transfer = s.transfer; tasks = s.tasks; resets = [] }
+without_resets s = record s { resets = [] }
 
 -- one of them has this tag
 abbrev pub is_busy : ℕ → List Task → Bool
@@ -173,15 +196,55 @@ abbrev pub and_drained : Fed → Handled → List LogicalUnit → Turn
 and_drained Closed h units = record { session = h.session; units = units; sent = h.sent; fed = Closed }
 and_drained Going h units = behind h.sent (drained h.session units h.session.tasks)
 
--- a PDU out of turn: of a target, or one that has no place in a normal session after the login
-abbrev pub handled : Session → List LogicalUnit → Header → List ℕ → Handled
-handled s units (head.ScsiCommand h) payload = commanded s h payload
-handled s units (head.DataOut h) payload = data_out s h payload
-handled s units (head.NopOut h) payload = pinged s h payload
-handled s units (head.TaskManagement h) payload = managed s units h
-handled s units (head.LogoutRequest h) payload = logged_out s h
-handled s units h payload = closes s
+-- the text of a discovery (RFC 7143, sections 11.10 and 11.11): so many bytes of it go out at once as the initiator takes
+abbrev pub with_text : Session → List ℕ → List ℕ → Session
+with_text s text left = record s { numbers = after_status s.numbers; text = text; left = left }
+
+-- the text of the initiator goes on in the next request
+abbrev pub text_kept : Session → TextRequest → List ℕ → Handled
+text_kept s h text = goes (with_text s text s.left) (text_pdu s.numbers h.tag false true [] ∷ [])
+
+-- the front of what is left is sent
+abbrev pub text_sent : Session → TextRequest → List ℕ → Handled
+text_sent s h left =
+    goes (with_text s [] (drop s.limits.max_send left))
+    (text_pdu s.numbers h.tag (nat_lt s.limits.max_send (length left)) (nat_lt s.limits.max_send (length left)) (take s.limits.max_send left) ∷ [])
+
+-- the text of a request is whole
+abbrev pub text_read : Session → List Found → TextRequest → Option (List Pair) → Handled
+text_read s listing h None = closes s
+text_read s listing h (Some pairs) = text_sent s h (listing_text listing pairs)
+
+abbrev pub texted_with : Session → List Found → TextRequest → List ℕ → Handled
+texted_with s listing h text =
+    if is_long text then closes s
+    else (if h.more then text_kept s h text
+    else (if length text == 0 && not (h.ttt == no_tag) then text_sent s h s.left
+    else text_read s listing h (text_pairs text)))
+
+abbrev pub texted : Session → List Found → TextRequest → List ℕ → Handled
+texted s listing h payload = texted_with s listing h (s.text ++ payload)
+
+-- a PDU whose turn it is, in a normal session
+abbrev pub handled_normally : Session → List LogicalUnit → Header → List ℕ → Handled
+handled_normally s units (head.ScsiCommand h) payload = commanded s h payload
+handled_normally s units (head.DataOut h) payload = data_out s h payload
+handled_normally s units (head.NopOut h) payload = pinged s h payload
+handled_normally s units (head.TaskManagement h) payload = managed s units h
+handled_normally s units (head.LogoutRequest h) payload = logged_out s h
+handled_normally s units h payload = closes s
+
+-- in a discovery
+abbrev pub handled_discovering : Session → List Found → Header → List ℕ → Handled
+handled_discovering s listing (head.TextRequest h) payload = texted s listing h payload
+handled_discovering s listing (head.NopOut h) payload = pinged s h payload
+handled_discovering s listing (head.LogoutRequest h) payload = logged_out s h
+handled_discovering s listing h payload = closes s
+
+-- what has no place in the session closes the connection
+abbrev pub handled : Session → List LogicalUnit → List Found → Header → List ℕ → Handled
+handled s units listing h payload = if s.discovers then handled_discovering s listing h payload else handled_normally s units h payload
 
 -- a PDU whose turn it is
-abbrev pub served : Session → List LogicalUnit → Pdu → Turn
-served s units p = and_drained (handled s units p.head p.payload).fed (handled s units p.head p.payload) units
+abbrev pub served : Session → List LogicalUnit → List Found → Pdu → Turn
+served s units listing p = and_drained (handled s units listing p.head p.payload).fed (handled s units listing p.head p.payload) units

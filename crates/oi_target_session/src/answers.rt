@@ -1,10 +1,10 @@
 ghost use Rattle.std.specs.Prelude.{◌≡◌, ◌≤◌, ◌<◌, ◌^◌, IfOk, length};
-ghost use Rattle.oi_target_session.specs.Answers.{echo_pdu, is_over, is_under, logout_pdu, r2t_pdu, residual_count, response_pdu, sense_segment, task_response_pdu};
+ghost use Rattle.oi_target_session.specs.Answers.{echo_pdu, is_over, is_under, logout_pdu, r2t_pdu, residual_count, response_pdu, sense_segment, task_response_pdu, text_pdu};
 
 use crate::limits::Numbers;
 use crate::task::Task;
 use oi_base::{Blob, NoMemory, Tag};
-use oi_pdu::{Header, LogoutResponse, NopIn, Pdu, R2t, ScsiResponse, TaskResponse};
+use oi_pdu::{Header, LogoutResponse, NopIn, Pdu, R2t, ScsiResponse, TaskResponse, TextResponse};
 use oi_recovery::Residual;
 use oi_units::UnitReply;
 use std::alloc::Global;
@@ -153,4 +153,21 @@ pub fn logout_pdu(alloc: Global, numbers: Numbers, tag: Tag) -> Pdu
         head,
         payload: Blob::new(alloc),
     }
+}
+
+/// A part of a discovery's text. Where more of it is to come, of either side, the initiator asks again under transfer tag 1.
+pub fn text_pdu(numbers: Numbers, tag: Tag, more: bool, unended: bool, payload: Blob) -> Pdu
+    ensures { result ≡ text_pdu numbers tag more unended payload }
+{
+    let head = Header::TextResponse(TextResponse {
+        last: !unended,
+        more,
+        lun: NO_LUN,
+        tag,
+        ttt: if unended { 1 } else { NO_TAG },
+        stat: numbers.stat,
+        exp: numbers.exp,
+        max: numbers.max(),
+    });
+    Pdu { head, payload }
 }

@@ -9,6 +9,7 @@ use crate::place::{Place, place_of};
 use crate::session::Session;
 use oi_base::NoMemory;
 use oi_pdu::Pdu;
+use oi_sendtargets::Found;
 use oi_units::Units;
 use std::collections::VecDeque;
 
@@ -37,22 +38,23 @@ fn pad(held: &mut VecDeque<Option<Pdu>>, at: usize) -> Result<(), NoMemory>
 fn serve_in_turn(
     session: &mut Session,
     units: &mut Units,
+    listing: &[Found],
     held: &mut VecDeque<Option<Pdu>>,
     pdu: Pdu,
     out: &mut Vec<u8>,
 ) -> Result<Fed, NoMemory>
-    ensures session { OnOk result (session.new ≡ (in_turn session.old units.old pdu held.old.items).session) }
-    ensures units { OnOk result (units.new ≡ (in_turn session.old units.old pdu held.old.items).units) }
-    ensures held { OnOk result (held.new.items ≡ (in_turn session.old units.old pdu held.old.items).held) }
-    ensures out { OnOk result (out.new.items ≡ out.old.items ++ bytes_of (in_turn session.old units.old pdu held.old.items).sent) }
-    ensures fed { IfOk result (λ f. f ≡ (in_turn session.old units.old pdu held.old.items).fed) }
+    ensures session { OnOk result (session.new ≡ (in_turn session.old units.old listing.now pdu held.old.items).session) }
+    ensures units { OnOk result (units.new ≡ (in_turn session.old units.old listing.now pdu held.old.items).units) }
+    ensures held { OnOk result (held.new.items ≡ (in_turn session.old units.old listing.now pdu held.old.items).held) }
+    ensures out { OnOk result (out.new.items ≡ out.old.items ++ bytes_of (in_turn session.old units.old listing.now pdu held.old.items).sent) }
+    ensures fed { IfOk result (λ f. f ≡ (in_turn session.old units.old listing.now pdu held.old.items).fed) }
 {
     session.advance();
     let slot = held.pop_front();
-    match session.serve(units, pdu, out)? {
+    match session.serve(units, listing, pdu, out)? {
         Fed::Closed => Ok(Fed::Closed),
         Fed::Going => match slot {
-            Some(Some(next)) => serve_in_turn(session, units, held, next, out),
+            Some(Some(next)) => serve_in_turn(session, units, listing, held, next, out),
             _ => Ok(Fed::Going),
         },
     }
@@ -62,19 +64,20 @@ fn serve_in_turn(
 pub fn receive(
     session: &mut Session,
     units: &mut Units,
+    listing: &[Found],
     held: &mut VecDeque<Option<Pdu>>,
     pdu: Pdu,
     out: &mut Vec<u8>,
 ) -> Result<Fed, NoMemory>
-    ensures session { OnOk result (session.new ≡ (received session.old units.old held.old.items pdu).session) }
-    ensures units { OnOk result (units.new ≡ (received session.old units.old held.old.items pdu).units) }
-    ensures held { OnOk result (held.new.items ≡ (received session.old units.old held.old.items pdu).held) }
-    ensures out { OnOk result (out.new.items ≡ out.old.items ++ bytes_of (received session.old units.old held.old.items pdu).sent) }
-    ensures fed { IfOk result (λ f. f ≡ (received session.old units.old held.old.items pdu).fed) }
+    ensures session { OnOk result (session.new ≡ (received session.old units.old listing.now held.old.items pdu).session) }
+    ensures units { OnOk result (units.new ≡ (received session.old units.old listing.now held.old.items pdu).units) }
+    ensures held { OnOk result (held.new.items ≡ (received session.old units.old listing.now held.old.items pdu).held) }
+    ensures out { OnOk result (out.new.items ≡ out.old.items ++ bytes_of (received session.old units.old listing.now held.old.items pdu).sent) }
+    ensures fed { IfOk result (λ f. f ≡ (received session.old units.old listing.now held.old.items pdu).fed) }
 {
-    match place_of(session.expected(), pdu.head) {
-        Place::Now => session.serve(units, pdu, out),
-        Place::InTurn => serve_in_turn(session, units, held, pdu, out),
+    match place_of(session.discovers(), session.expected(), pdu.head) {
+        Place::Now => session.serve(units, listing, pdu, out),
+        Place::InTurn => serve_in_turn(session, units, listing, held, pdu, out),
         Place::Outside => Ok(Fed::Closed),
         Place::Early(at) => {
             let at = at as usize;
@@ -92,18 +95,19 @@ pub fn receive(
 pub fn receive_all(
     session: &mut Session,
     units: &mut Units,
+    listing: &[Found],
     held: &mut VecDeque<Option<Pdu>>,
     pdus: Vec<Pdu>,
     out: &mut Vec<u8>,
 ) -> Result<Fed, NoMemory>
-    ensures session { OnOk result (session.new ≡ (run session.old units.old held.old.items pdus.items).session) }
-    ensures units { OnOk result (units.new ≡ (run session.old units.old held.old.items pdus.items).units) }
-    ensures held { OnOk result (held.new.items ≡ (run session.old units.old held.old.items pdus.items).held) }
-    ensures out { OnOk result (out.new.items ≡ out.old.items ++ bytes_of (run session.old units.old held.old.items pdus.items).sent) }
-    ensures fed { IfOk result (λ f. f ≡ (run session.old units.old held.old.items pdus.items).fed) }
+    ensures session { OnOk result (session.new ≡ (run session.old units.old listing.now held.old.items pdus.items).session) }
+    ensures units { OnOk result (units.new ≡ (run session.old units.old listing.now held.old.items pdus.items).units) }
+    ensures held { OnOk result (held.new.items ≡ (run session.old units.old listing.now held.old.items pdus.items).held) }
+    ensures out { OnOk result (out.new.items ≡ out.old.items ++ bytes_of (run session.old units.old listing.now held.old.items pdus.items).sent) }
+    ensures fed { IfOk result (λ f. f ≡ (run session.old units.old listing.now held.old.items pdus.items).fed) }
 {
     for pdu in pdus {
-        match receive(session, units, held, pdu, out)? {
+        match receive(session, units, listing, held, pdu, out)? {
             Fed::Closed => return Ok(Fed::Closed),
             Fed::Going => {}
         }

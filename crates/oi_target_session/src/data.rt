@@ -1,11 +1,12 @@
 ghost use Rattle.std.specs.Prelude.{◌≡◌, ◌++◌, ◌≤◌, ◌<◌, ◌+◌, ◌^◌, IfOk, OnOk, drop, length};
 ghost use Rattle.oi_target_session.specs.Answers.{bytes_of};
-ghost use Rattle.oi_target_session.specs.Sequences.{AreLimits, data_pdus, piece_pdu, piece_size};
+ghost use Rattle.oi_target_session.specs.Sequences.{AreLimits, data_pdus, piece_head, piece_size};
 
 use crate::answers::{NO_LUN, NO_TAG, is_over, is_under, residual_count};
 use crate::limits::{Limits, Numbers};
-use oi_base::{Blob, NoMemory, Serial, Tag};
-use oi_pdu::{DataIn, Header, Pdu, write_pdu};
+use crate::parts::{after, write_parts};
+use oi_base::{NoMemory, Serial, Tag};
+use oi_pdu::{DataIn, Header};
 use oi_recovery::Residual;
 use std::alloc::Global;
 
@@ -29,27 +30,21 @@ fn piece_size(limits: Limits, at: usize, left: usize) -> usize
     (limits.max_send as usize).min(burst - at % burst).min(left)
 }
 
-fn piece_pdu(
-    alloc: Global,
-    source: Source,
-    number: u32,
-    at: u32,
-    rest: &[u8],
-) -> Result<Pdu, NoMemory>
+// The header of the piece at the front of the data that are left.
+fn piece_head(source: Source, number: u32, at: u32, left: usize) -> Header
     requires limits { AreLimits source.limits }
-    requires end { at + length rest.now < 2 ^ 32 }
-    ensures value { IfOk result (λ p. p ≡ piece_pdu source.limits source.numbers source.tag source.residual number at rest.now) }
-    ensures size { IfOk result (λ p. length p.payload < 2 ^ 24) }
+    requires end { at + left < 2 ^ 32 }
+    ensures { result ≡ piece_head source.limits source.numbers source.tag source.residual number at left }
 {
     let burst = source.limits.max_burst as usize;
-    let size = piece_size(source.limits, at as usize, rest.len());
-    let ends = size == rest.len();
+    let size = piece_size(source.limits, at as usize, left);
+    let ends = size == left;
     let residual = if ends {
         source.residual
     } else {
         Residual::Exact
     };
-    let head = Header::DataIn(DataIn {
+    Header::DataIn(DataIn {
         last: (at as usize + size) % burst == 0 || ends,
         over: is_over(residual),
         under: is_under(residual),
@@ -64,9 +59,7 @@ fn piece_pdu(
         number,
         offset: at,
         residual: residual_count(residual),
-    });
-    let payload = Blob::from_slice(alloc, &rest[..size])?;
-    Ok(Pdu { head, payload })
+    })
 }
 
 /// Appends the Data-In PDUs of a command that succeeded.
@@ -84,19 +77,12 @@ pub fn write_data(
     let mut at = 0u32;
     let mut number = 0u32;
     while !rest.is_empty() {
-        let pdu = piece_pdu(alloc, source, number, at, rest)?;
-        write_pdu(&pdu, out)?;
         let size = piece_size(source.limits, at as usize, rest.len());
+        let head = piece_head(source, number, at, rest.len());
+        write_parts(alloc, head, &rest[..size], out)?;
         at += size as u32;
         number = number.wrapping_add(1);
         rest = after(rest, size);
     }
     Ok(())
-}
-
-fn after(bytes: &[u8], size: usize) -> &[u8]
-    requires { size ≤ length bytes.now }
-    ensures { result.now ≡ drop size bytes.now }
-{
-    &bytes[size..]
 }

@@ -8,10 +8,12 @@ mod fed;
 mod laws;
 mod limits;
 mod manage;
+mod parts;
 mod place;
 mod reset;
 mod session;
 mod task;
+mod text;
 
 pub use arrive::{receive, receive_all};
 pub use fed::Fed;

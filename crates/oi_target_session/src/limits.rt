@@ -1,5 +1,6 @@
 ghost use Rattle.std.specs.Prelude.{◌≡◌, ◌+◌, ◌%◌, ◌^◌};
 ghost use Rattle.oi_target_session.specs.Answers.{after_status, max_number};
+ghost use Rattle.oi_target_session.specs.Sequences.{AreLimits, usable};
 
 use oi_base::Serial;
 
@@ -9,6 +10,20 @@ pub struct Limits {
     pub max_send: u32,
     pub max_burst: u32,
     pub first_burst: u32,
+}
+
+impl Limits {
+    /// The same, where a PDU can carry them: at least one byte, and at most 2^24 - 1 in a segment.
+    pub fn usable(self) -> Limits
+        ensures value { result ≡ usable self }
+        ensures limits { AreLimits result }
+    {
+        Limits {
+            max_send: self.max_send.max(1).min(0xff_ffff),
+            max_burst: self.max_burst.max(1),
+            first_burst: self.first_burst,
+        }
+    }
 }
 
 /// ExpCmdSN, and the StatSN of the next status (RFC 7143, section 4.2.2).

@@ -36,16 +36,18 @@ fn place_by(exp: Serial, immediate: bool, number: Serial) -> Place
     }
 }
 
-/// The place of a PDU, by the CmdSN that is expected.
-pub fn place_of(exp: Serial, head: Header) -> Place
-    ensures place { result ≡ place_of exp.0 head }
+/// The place of a PDU, by the CmdSN that is expected. In a discovery commands and task management have none, in a normal session
+/// text has none.
+pub fn place_of(discovers: bool, exp: Serial, head: Header) -> Place
+    ensures place { result ≡ place_of discovers exp.0 head }
     ensures early { (at : ℕ) → result ≡ Early at → at < 32 }
 {
     match head {
         Header::NopOut(h) => place_by(exp, h.immediate, h.cmdsn),
-        Header::ScsiCommand(h) => place_by(exp, h.immediate, h.cmdsn),
-        Header::TaskManagement(h) => place_by(exp, h.immediate, h.cmdsn),
+        Header::ScsiCommand(h) => place_by(exp, h.immediate || discovers, h.cmdsn),
+        Header::TaskManagement(h) => place_by(exp, h.immediate || discovers, h.cmdsn),
         Header::LogoutRequest(h) => place_by(exp, h.immediate, h.cmdsn),
+        Header::TextRequest(h) => place_by(exp, h.immediate || !discovers, h.cmdsn),
         _ => Place::Now,
     }
 }

@@ -2,8 +2,8 @@ ghost use Rattle.std.specs.Prelude.{◌≡◌, ◌≤◌, ◌<◌, ◌+◌, ◌+
 ghost use Rattle.std.specs.List.{list_any, position};
 ghost use Rattle.oi_target_session.specs.Answers.{bytes_of};
 ghost use Rattle.oi_target_session.specs.Arrivals.{advanced};
-ghost use Rattle.oi_target_session.specs.Sequences.{AreLimits};
-ghost use Rattle.oi_target_session.specs.Sessions.{and_drained, asking, behind, commanded, counted, data_out, drained, handled, data_at, filled_at, is_busy, is_unfit, logged_out, pinged, queued, reply_pdus, served, with_tasks, without_resets};
+ghost use Rattle.oi_target_session.specs.Sequences.{AreLimits, data_pdus};
+ghost use Rattle.oi_target_session.specs.Sessions.{and_drained, asking, behind, commanded, counted, data_out, drained, handled, data_at, filled_at, handled_discovering, handled_normally, is_busy, is_unfit, logged_out, new_session, pinged, queued, reply_pdus, served, with_tasks, without_resets};
 ghost use Rattle.oi_target_session.specs.Tasks.{grown, is_stuck, is_waiting, no_task, waits_as};
 ghost use Rattle.oi_target_session.specs.declared.fed.Fed.TheVariants.{Going};
 ghost use Rattle.oi_units.specs.Units.{executed};
@@ -14,10 +14,12 @@ use crate::fed::Fed;
 use crate::limits::{Limits, Numbers};
 use crate::reset::Reset;
 use crate::task::Task;
-use oi_base::{Blob, NoMemory, Serial};
+use oi_base::{Blob, NoMemory, Serial, Tag};
 use oi_pdu::{DataOut, Header, LogoutRequest, NopOut, Pdu, ScsiCommand, write_pdu};
+use oi_recovery::Residual;
 use oi_reserve::Nexus;
-use oi_units::{UnitCommand, UnitReply, Units};
+use oi_sendtargets::Found;
+use oi_units::{UnitReply, Units};
 use std::alloc::Global;
 use std::collections::VecDeque;
 use std::marker::Model;
@@ -28,11 +30,14 @@ use std::mem;
 pub struct Session {
     pub(crate) alloc: Global,
     nexus: Nexus,
-    limits: Limits,
+    discovers: bool,
+    pub(crate) limits: Limits,
     pub(crate) numbers: Numbers,
     transfer: u32,
     pub(crate) tasks: VecDeque<Task>,
     pub(crate) resets: Vec<Reset>,
+    pub(crate) text: Blob,
+    pub(crate) left: Blob,
 }
 
 impl Model for Session {
@@ -43,36 +48,49 @@ impl Model for Session {
 
     ghost view = { λ s. record {
       nexus = s.nexus.bytes;
+      discovers = s.discovers;
       limits = s.limits;
       numbers = s.numbers;
       transfer = s.transfer;
       tasks = s.tasks.items;
       resets = s.resets.items;
+      text = s.text;
+      left = s.left;
     } };
 
     ghost invariant = { λ s. AreLimits s.limits };
 }
 
 impl Session {
-    /// A session at its first command. Target transfer tags count from 1.
-    pub fn new(alloc: Global, nexus: Nexus, limits: Limits, numbers: Numbers) -> Session
-        requires { AreLimits limits }
-        ensures nexus { result.nexus ≡ nexus.bytes }
-        ensures limits { result.limits ≡ limits }
-        ensures numbers { result.numbers ≡ numbers }
-        ensures transfer { result.transfer ≡ 1 }
-        ensures tasks { result.tasks ≡ [] }
-        ensures resets { result.resets ≡ [] }
+    /// A session at its first command, as its login opened it.
+    pub fn new(
+        alloc: Global,
+        nexus: Nexus,
+        discovers: bool,
+        limits: Limits,
+        numbers: Numbers,
+    ) -> Session
+        ensures { result ≡ new_session nexus.bytes discovers limits numbers }
     {
         Session {
             alloc,
             nexus,
-            limits,
+            discovers,
+            limits: limits.usable(),
             numbers,
             transfer: 1,
             tasks: VecDeque::new(alloc),
             resets: Vec::new(alloc),
+            text: Blob::new(alloc),
+            left: Blob::new(alloc),
         }
+    }
+
+    /// Whether it is a discovery.
+    pub fn discovers(&self) -> bool
+        ensures { result ≡ self.now.discovers }
+    {
+        self.discovers
     }
 
     /// ExpCmdSN.
@@ -210,6 +228,29 @@ impl Session {
         Ok(())
     }
 
+    // Writes the data of a reply with status GOOD.
+    fn send(
+        &mut self,
+        tag: Tag,
+        residual: Residual,
+        bytes: &[u8],
+        out: &mut Vec<u8>,
+    ) -> Result<(), NoMemory>
+        requires { length bytes.now < 2 ^ 32 }
+        ensures session { OnOk result (self.new ≡ counted self.old) }
+        ensures out { OnOk result (out.new.items ≡ out.old.items ++ bytes_of (data_pdus self.old.limits self.old.numbers tag residual (length bytes.now) 0 0 bytes.now)) }
+    {
+        let source = Source {
+            limits: self.limits,
+            numbers: self.numbers,
+            tag,
+            residual,
+        };
+        write_data(self.alloc, source, bytes, out)?;
+        self.numbers = self.numbers.after_status();
+        Ok(())
+    }
+
     // Writes the reply to a task.
     fn reply(&mut self, task: &Task, reply: &UnitReply, out: &mut Vec<u8>) -> Result<(), NoMemory>
         requires { length reply.now.sent < 2 ^ 32 }
@@ -218,17 +259,30 @@ impl Session {
     {
         if reply.sent.as_slice().is_empty() {
             write_pdu(&response_pdu(self.alloc, self.numbers, task, reply)?, out)?;
+            self.numbers = self.numbers.after_status();
+            Ok(())
         } else {
-            let source = Source {
-                limits: self.limits,
-                numbers: self.numbers,
-                tag: task.tag,
-                residual: reply.residual,
-            };
-            write_data(self.alloc, source, reply.sent.as_slice(), out)?;
+            self.send(task.tag, reply.residual, reply.sent.as_slice(), out)
         }
-        self.numbers = self.numbers.after_status();
-        Ok(())
+    }
+
+    // Executes a task, and writes the reply to it. What a disk sends is copied once, from there to what is written.
+    fn execute(&mut self, units: &mut Units, task: &Task, out: &mut Vec<u8>) -> Result<(), NoMemory>
+        ensures session { OnOk result (self.new ≡ counted self.old) }
+        ensures units { OnOk result (units.new ≡ (executed units.old self.old.nexus task.now.command task.now.payload).units) }
+        ensures out { OnOk result (out.new.items ≡ out.old.items ++ bytes_of (reply_pdus self.old task.now (executed units.old self.old.nexus task.now.command task.now.payload).reply)) }
+    {
+        if let Some(data) = units.lend(&self.nexus, task.command) {
+            self.send(task.tag, data.residual, data.bytes, out)?;
+            return Ok(());
+        }
+        let reply = units.execute(
+            self.alloc,
+            &self.nexus,
+            task.command,
+            task.payload.as_slice(),
+        )?;
+        self.reply(task, &reply, out)
     }
 
     // The first task, where it is to be executed.
@@ -250,21 +304,20 @@ impl Session {
         ensures out { OnOk result (out.new.items ≡ out.old.items ++ bytes_of (drained self.old units.old self.old.tasks).sent) }
     {
         while let Some(task) = self.next_ready() {
-            let reply = units.execute(
-                self.alloc,
-                &self.nexus,
-                task.command,
-                task.payload.as_slice(),
-            )?;
-            self.reply(&task, &reply, out)?;
+            self.execute(units, &task, out)?;
         }
         Ok(())
     }
 
-    fn handle(&mut self, units: &Units, pdu: Pdu, out: &mut Vec<u8>) -> Result<Fed, NoMemory>
-        ensures session { OnOk result (self.new ≡ (handled self.old units.now pdu.head pdu.payload).session) }
-        ensures out { OnOk result (out.new.items ≡ out.old.items ++ bytes_of (handled self.old units.now pdu.head pdu.payload).sent) }
-        ensures fed { IfOk result (λ f. f ≡ (handled self.old units.now pdu.head pdu.payload).fed) }
+    fn handle_normally(
+        &mut self,
+        units: &Units,
+        pdu: Pdu,
+        out: &mut Vec<u8>,
+    ) -> Result<Fed, NoMemory>
+        ensures session { OnOk result (self.new ≡ (handled_normally self.old units.now pdu.head pdu.payload).session) }
+        ensures out { OnOk result (out.new.items ≡ out.old.items ++ bytes_of (handled_normally self.old units.now pdu.head pdu.payload).sent) }
+        ensures fed { IfOk result (λ f. f ≡ (handled_normally self.old units.now pdu.head pdu.payload).fed) }
     {
         let Pdu { head, payload } = pdu;
         match head {
@@ -277,14 +330,57 @@ impl Session {
         }
     }
 
-    /// What becomes of a PDU whose turn it is.
-    pub fn serve(&mut self, units: &mut Units, pdu: Pdu, out: &mut Vec<u8>) -> Result<Fed, NoMemory>
-        ensures session { OnOk result (self.new ≡ (served self.old units.old pdu).session) }
-        ensures units { OnOk result (units.new ≡ (served self.old units.old pdu).units) }
-        ensures out { OnOk result (out.new.items ≡ out.old.items ++ bytes_of (served self.old units.old pdu).sent) }
-        ensures fed { IfOk result (λ f. f ≡ (served self.old units.old pdu).fed) }
+    fn handle_discovering(
+        &mut self,
+        listing: &[Found],
+        pdu: Pdu,
+        out: &mut Vec<u8>,
+    ) -> Result<Fed, NoMemory>
+        ensures session { OnOk result (self.new ≡ (handled_discovering self.old listing.now pdu.head pdu.payload).session) }
+        ensures out { OnOk result (out.new.items ≡ out.old.items ++ bytes_of (handled_discovering self.old listing.now pdu.head pdu.payload).sent) }
+        ensures fed { IfOk result (λ f. f ≡ (handled_discovering self.old listing.now pdu.head pdu.payload).fed) }
     {
-        match self.handle(units, pdu, out)? {
+        let Pdu { head, payload } = pdu;
+        match head {
+            Header::TextRequest(h) => self.text(listing, h, payload.as_slice(), out),
+            Header::NopOut(h) => self.ping(h, payload.as_slice(), out),
+            Header::LogoutRequest(h) => self.log_out(h, out),
+            _ => Ok(Fed::Closed),
+        }
+    }
+
+    fn handle(
+        &mut self,
+        units: &Units,
+        listing: &[Found],
+        pdu: Pdu,
+        out: &mut Vec<u8>,
+    ) -> Result<Fed, NoMemory>
+        ensures session { OnOk result (self.new ≡ (handled self.old units.now listing.now pdu.head pdu.payload).session) }
+        ensures out { OnOk result (out.new.items ≡ out.old.items ++ bytes_of (handled self.old units.now listing.now pdu.head pdu.payload).sent) }
+        ensures fed { IfOk result (λ f. f ≡ (handled self.old units.now listing.now pdu.head pdu.payload).fed) }
+    {
+        if self.discovers {
+            self.handle_discovering(listing, pdu, out)
+        } else {
+            self.handle_normally(units, pdu, out)
+        }
+    }
+
+    /// What becomes of a PDU whose turn it is.
+    pub fn serve(
+        &mut self,
+        units: &mut Units,
+        listing: &[Found],
+        pdu: Pdu,
+        out: &mut Vec<u8>,
+    ) -> Result<Fed, NoMemory>
+        ensures session { OnOk result (self.new ≡ (served self.old units.old listing.now pdu).session) }
+        ensures units { OnOk result (units.new ≡ (served self.old units.old listing.now pdu).units) }
+        ensures out { OnOk result (out.new.items ≡ out.old.items ++ bytes_of (served self.old units.old listing.now pdu).sent) }
+        ensures fed { IfOk result (λ f. f ≡ (served self.old units.old listing.now pdu).fed) }
+    {
+        match self.handle(units, listing, pdu, out)? {
             Fed::Closed => Ok(Fed::Closed),
             Fed::Going => {
                 self.drain(units, out)?;

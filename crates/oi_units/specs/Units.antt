@@ -1,18 +1,18 @@
 -- Logical units asked one command after another (SAM-5, section 5; SPC-4, sections 5.13 and 6.33).
-use Rattle.std.specs.Prelude.{ℕ, zero, suc, ◌*◌, Bool, Option, Some, None, List, [], ◌∷◌, ◌++◌, bytes_eq, length, replicate, slice_index, ◌==◌, if◌then◌else◌}
+use Rattle.std.specs.Prelude.{◌≡◌, ℕ, zero, suc, ◌*◌, Option, Some, None, List, [], ◌∷◌, ◌++◌, bytes_eq, length, replicate, slice_index, take, ◌==◌, if◌then◌else◌}
 use Rattle.std.specs.List.{slice_get, slice_set}
 use Rattle.std.specs.Int.{to_be_bytes, w32}
 use Rattle.oi_base.specs.Limits.{block_length}
 use Rattle.oi_disk.specs.Answers.{good, illegal_request}
 use Rattle.oi_disk.specs.Commands.{command_of}
-use Rattle.oi_disk.specs.Disks.{Served, disk_answer}
+use Rattle.oi_disk.specs.Disks.{Served, disk_answer, lent as lent_of_disk}
 use Rattle.oi_disk.specs.declared.answer.DiskAnswer.{DiskAnswer}
 use Rattle.oi_reserve.specs.Access.{access_allowed, wish_of}
 use Rattle.oi_reserve.specs.Outcomes.{Outcome, reserve_out}
 use Rattle.oi_reserve.specs.Reports.{reserve_in, reserve_in_answer}
 use Rattle.oi_reserve.specs.Tables.{empty_table}
 use Rattle.oi_scsi.specs.Commands.{lun_of}
-use Rattle.oi_units.specs.Replies.{conflict_answer, reply_of, reserve_answer}
+use Rattle.oi_units.specs.Replies.{conflict_answer, reply_of, reserve_answer, sendable_length}
 use Rattle.oi_units.specs.declared.command.UnitCommand.{UnitCommand}
 use Rattle.oi_units.specs.declared.reply.UnitReply.{UnitReply}
 use Rattle.oi_units.specs.declared.unit.LogicalUnit.{LogicalUnit}
@@ -94,6 +94,27 @@ executed_on (Some u) units nexus c payload = record {
   units = slice_set units (place_of c.lun) (asked (length units) u nexus c.cdb payload).unit;
 }
 
+-- the reply to a READ that succeeds and is sent data, for which nothing has to be changed or copied; None for any other command
+abbrev pub lent_reply : UnitCommand → Option (List ℕ) → Option UnitReply
+lent_reply c None = None
+lent_reply c (Some bytes) = if length (take (sendable_length c) bytes) == 0 then None else Some (reply_of c good bytes)
+
+abbrev pub lent_by : LogicalUnit → List ℕ → List ℕ → Option (List ℕ)
+lent_by u nexus cdb = if access_allowed u.reservations nexus (wish_of (command_of cdb)) then lent_of_disk u.disk cdb else None
+
+abbrev pub lent_on : Option LogicalUnit → List ℕ → UnitCommand → Option UnitReply
+lent_on None nexus c = None
+lent_on (Some u) nexus c = lent_reply c (lent_by u nexus c.cdb)
+
+abbrev pub lent : List LogicalUnit → List ℕ → UnitCommand → Option UnitReply
+lent units nexus c = lent_on (unit_named units c.lun) nexus c
+
 -- one command of a nexus, with the data that came for it
 abbrev pub executed : List LogicalUnit → List ℕ → UnitCommand → List ℕ → Executed
 executed units nexus c payload = executed_on (unit_named units c.lun) units nexus c payload
+
+-- a command that is lent its data is executed by that
+abbrev pub LentIsExecuted : Type 0
+LentIsExecuted =
+    (units : List LogicalUnit) (nexus : List ℕ) (c : UnitCommand) (payload : List ℕ) (r : UnitReply) → lent units nexus c ≡ Some r
+    → executed units nexus c payload ≡ record { reply = r; units = units }

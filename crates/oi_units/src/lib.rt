@@ -2,13 +2,15 @@
 #![tactic(auto)]
 
 mod command;
+mod laws;
 mod listing;
 mod reply;
 mod unit;
 mod units;
 
 pub use command::UnitCommand;
-pub use reply::UnitReply;
+pub use laws::lent_is_executed;
+pub use reply::{Lent, UnitReply};
 pub use unit::LogicalUnit;
 pub use units::Units;
 

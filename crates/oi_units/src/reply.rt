@@ -1,6 +1,7 @@
-ghost use Rattle.std.specs.Prelude.{◌≡◌, ◌<◌, ◌^◌, IfOk, length};
+ghost use Rattle.std.specs.Prelude.{◌≡◌, ◌<◌, ◌^◌, [], IfNone, IfOk, IfSome, None, Some, length};
 ghost use Rattle.oi_base.specs.Counts.{told};
 ghost use Rattle.oi_units.specs.Replies.{conflict_answer, reserve_answer, reply_of, residual_of};
+ghost use Rattle.oi_units.specs.Units.{lent_reply};
 
 use crate::command::UnitCommand;
 use oi_base::{Blob, NoMemory};
@@ -52,6 +53,29 @@ pub fn reply_of(command: UnitCommand, answer: DiskAnswer, mut bytes: Vec<u8>) ->
         residual,
         sent: Blob::from_vec(bytes),
     }
+}
+
+/// The data that a READ is sent, as they lie in its disk, and the residual count. Status GOOD comes with them.
+#[derive(Clone, Copy, Debug)]
+pub struct Lent<'a> {
+    pub bytes: &'a [u8],
+    pub residual: Residual,
+}
+
+/// So much of these bytes of a disk as may be sent; None where that is nothing.
+pub fn lent_part(command: UnitCommand, bytes: &[u8]) -> Option<Lent<'_>>
+    ensures some { IfSome result (λ l. lent_reply command (Some bytes.now) ≡ Some (record { status = 0; sense = []; residual = l.residual; sent = l.bytes.now })) }
+    ensures none { IfNone result (lent_reply command (Some bytes.now) ≡ None) }
+    ensures size { IfSome result (λ l. (0 < length l.bytes.now) × (length l.bytes.now < 2 ^ 32)) }
+{
+    let count = bytes.len().min(command.sendable() as usize);
+    if count == 0 {
+        return None;
+    }
+    Some(Lent {
+        bytes: &bytes[..count],
+        residual: residual_of(command, 0x00, bytes.len()),
+    })
 }
 
 /// The residual count for a status and so many bytes of data.

@@ -1,10 +1,10 @@
-ghost use Rattle.std.specs.Prelude.{◌≡◌, ◌≤◌, IfOk, OnOk};
+ghost use Rattle.std.specs.Prelude.{◌≡◌, ◌≤◌, IfNone, IfOk, IfSome, None, OnOk, Some};
 ghost use Rattle.oi_disk.specs.Commands.{IsDiskCommand};
 ghost use Rattle.oi_disk.specs.Disks.{least_disk, most_disk};
 ghost use Rattle.oi_reserve.specs.Reports.{reserve_in, reserve_in_answer};
 ghost use Rattle.oi_reserve.specs.Outcomes.{reserve_out};
 ghost use Rattle.oi_units.specs.Replies.{reserve_answer};
-ghost use Rattle.oi_units.specs.Units.{asked, asked_of_disk, by_table, fresh_unit, most_units};
+ghost use Rattle.oi_units.specs.Units.{asked, asked_of_disk, by_table, fresh_unit, lent_by, most_units};
 
 use crate::listing::unit_list;
 use crate::reply::{conflict_answer, reserve_answer};
@@ -62,6 +62,18 @@ impl LogicalUnit {
             0x5e => self.report(alloc, cdb),
             0x5f => self.order(alloc, nexus, cdb, payload),
             _ => self.serve(alloc, nexus, cdb, payload),
+        }
+    }
+
+    /// The bytes of the disk that a READ of this nexus is sent; None where it does not succeed, and for any other command.
+    pub fn lend(&self, nexus: &Nexus, cdb: &[u8; 16]) -> Option<&[u8]>
+        ensures some { IfSome result (λ b. lent_by self.now nexus.now.bytes cdb.now ≡ Some b.now) }
+        ensures none { IfNone result (lent_by self.now nexus.now.bytes cdb.now ≡ None) }
+    {
+        if self.reservations.may(nexus, wish_of(read_command(cdb))) {
+            self.disk.lend(cdb)
+        } else {
+            None
         }
     }
 

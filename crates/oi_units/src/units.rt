@@ -1,9 +1,9 @@
-ghost use Rattle.std.specs.Prelude.{◌≡◌, ◌≤◌, ◌<◌, ◌^◌, IfOk, OnOk, All, is_some, map, length};
+ghost use Rattle.std.specs.Prelude.{◌≡◌, ◌≤◌, ◌<◌, ◌^◌, [], IfNone, IfOk, IfSome, None, OnOk, Some, All, is_some, map, length};
 ghost use Rattle.oi_disk.specs.Disks.{least_disk, most_disk};
-ghost use Rattle.oi_units.specs.Units.{executed, fresh_unit, most_units, unit_named};
+ghost use Rattle.oi_units.specs.Units.{executed, fresh_unit, lent, most_units, unit_named};
 
 use crate::command::UnitCommand;
-use crate::reply::{UnitReply, reply_of};
+use crate::reply::{Lent, UnitReply, lent_part, reply_of};
 use crate::unit::LogicalUnit;
 use oi_base::NoMemory;
 use oi_disk::illegal_request;
@@ -51,6 +51,23 @@ impl Units {
         ensures { result ≡ is_some (unit_named self.now lun) }
     {
         lun == lun_bytes(lun[1]) && (lun[1] as usize) < self.units.len()
+    }
+
+    /// What a command of this nexus is answered that is sent data of a disk: such a command needs no `execute`, since it changes
+    /// nothing. None for any other command.
+    pub fn lend(&self, nexus: &Nexus, command: UnitCommand) -> Option<Lent<'_>>
+        ensures some { IfSome result (λ l. lent self.now nexus.now.bytes command ≡ Some (record { status = 0; sense = []; residual = l.residual; sent = l.bytes.now })) }
+        ensures none { IfNone result (lent self.now nexus.now.bytes command ≡ None) }
+        ensures size { IfSome result (λ l. (0 < length l.bytes.now) × (length l.bytes.now < 2 ^ 32)) }
+    {
+        let place = command.lun[1] as usize;
+        if command.lun != lun_bytes(command.lun[1]) || place >= self.units.len() {
+            return None;
+        }
+        match self.units[place].lend(nexus, &command.cdb) {
+            Some(bytes) => lent_part(command, bytes),
+            None => None,
+        }
     }
 
     /// Executes one command of this nexus with the data that came for it.

@@ -7,5 +7,5 @@ abbrev pub invariant-loop-pdu : goal.invariant-loop-pdu
 invariant-loop-pdu l =
     (goal.iterator-loop-pdu).can_next l.pdu-iterator
     × (goal.iterator-loop-pdu).is_finite l.pdu-iterator
-    × RunsOn (run l.session l.units l.held.items (into_iter_items l.pdu-iterator)) l.out.items
-    (run l.fn.session l.fn.units l.fn.held.items l.fn.pdus.items) l.fn.out.items
+    × RunsOn (run l.session l.units l.listing l.held.items (into_iter_items l.pdu-iterator)) l.out.items
+    (run l.fn.session l.fn.units l.listing l.fn.held.items l.fn.pdus.items) l.fn.out.items

@@ -1,0 +1,182 @@
+-- What a target does asks for no bytes of its connections, and for none that was ended.
+use Rattle.std.proofs.Common.{ℕ, ◌≡◌, ◌∙◌, Some, List, [], ◌∷◌, map, refl, ap, sym}
+use Rattle.oi_pdu.specs.declared.codec.Pdu.{Pdu}
+use Rattle.oi_stream.specs.Feeding.{State}
+use Rattle.oi_target.proofs.Placed.{link_map, link_placed, over, placed_map, placed_same, placed_twice}
+use Rattle.oi_target.specs.Events.{bare, bare_link, heard, shut}
+use Rattle.oi_target.specs.Feeding.{put_back}
+use Rattle.oi_target.specs.Steps.{Step, logged_in_by, one_then, stepped, steps, with_words}
+use Rattle.oi_target.specs.Targets.{Target, aside, closed_link, ended_by, ended_standing, link_at, link_of, nexus_of, no_bytes, placed, reset_link, reset_links, reset_standing, with_links}
+use Rattle.oi_target.specs.declared.link.Link.{Link}
+use Rattle.oi_target.specs.declared.link.Standing.{Standing}
+use Rattle.oi_target.specs.declared.link.Standing.TheVariants as standing
+use Rattle.oi_target_login.specs.Logins.{turned}
+use Rattle.oi_target_login.specs.declared.answer.Answer.{Answer}
+use Rattle.oi_target_login.specs.declared.answer.Verdict.{Verdict}
+use Rattle.oi_target_login.specs.declared.answer.Verdict.TheVariants as verdict
+use Rattle.oi_target_session.specs.Arrivals.{received}
+use Rattle.oi_target_session.specs.declared.fed.Fed.{Fed}
+use Rattle.oi_target_session.specs.declared.fed.Fed.TheVariants.{Going, Closed}
+use Rattle.oi_target_session.specs.declared.reset.Reset.{Reset}
+
+ended_shut : (nexus : List ℕ) (s : Standing) → shut (ended_standing nexus s) ≡ shut (ended_standing nexus (shut s))
+ended_shut nexus (standing.LoggingIn p) = refl
+ended_shut nexus (standing.Serving v) = refl
+ended_shut nexus standing.Ended = refl
+ended_shut nexus standing.Closed = refl
+
+reset_shut : (reset : Reset) (s : Standing) → shut (reset_standing reset s) ≡ shut (reset_standing reset (shut s))
+reset_shut reset (standing.LoggingIn p) = refl
+reset_shut reset (standing.Serving v) = refl
+reset_shut reset standing.Ended = refl
+reset_shut reset standing.Closed = refl
+
+pub shut_twice : (s : Standing) → shut (shut s) ≡ shut s
+shut_twice (standing.LoggingIn p) = refl
+shut_twice (standing.Serving v) = refl
+shut_twice standing.Ended = refl
+shut_twice standing.Closed = refl
+
+ended_bare : (nexus : List ℕ) (ls : List Link) → map bare_link (map (ended_by nexus) (map bare_link ls)) ≡ map bare_link (map (ended_by nexus) ls)
+ended_bare nexus [] = refl
+ended_bare nexus (l ∷ ls) =
+    ap (λ (s : Standing). link_at l.number no_bytes s ∷ map bare_link (map (ended_by nexus) (map bare_link ls))) (sym (ended_shut nexus l.standing))
+    ∙ ap (λ (z : List Link). bare_link (ended_by nexus l) ∷ z) (ended_bare nexus ls)
+
+reset_bare : (reset : Reset) (ls : List Link) → map bare_link (map (reset_link reset) (map bare_link ls)) ≡ map bare_link (map (reset_link reset) ls)
+reset_bare reset [] = refl
+reset_bare reset (l ∷ ls) =
+    ap (λ (s : Standing). link_at l.number no_bytes s ∷ map bare_link (map (reset_link reset) (map bare_link ls))) (sym (reset_shut reset l.standing))
+    ∙ ap (λ (z : List Link). bare_link (reset_link reset l) ∷ z) (reset_bare reset ls)
+
+pub bare_twice : (ls : List Link) → map bare_link (map bare_link ls) ≡ map bare_link ls
+bare_twice [] = refl
+bare_twice (l ∷ ls) =
+    ap (λ (s : Standing). link_at l.number no_bytes s ∷ map bare_link (map bare_link ls)) (shut_twice l.standing)
+    ∙ ap (λ (z : List Link). bare_link l ∷ z) (bare_twice ls)
+
+resets_bare : (resets : List Reset) (ls : List Link) → map bare_link (reset_links resets (map bare_link ls)) ≡ map bare_link (reset_links resets ls)
+resets_bare [] ls = bare_twice ls
+resets_bare (reset ∷ resets) ls =
+    sym (resets_bare resets (map (reset_link reset) (map bare_link ls)))
+    ∙ ap (λ (z : List Link). map bare_link (reset_links resets z)) (reset_bare reset ls)
+    ∙ resets_bare resets (map (reset_link reset) ls)
+
+-- two steps that differ in bytes alone
+pub record AreAlike (a b : Step) : Type 0 where
+  pub target : bare a.target ≡ bare b.target
+  pub standing : a.standing ≡ b.standing
+  pub sent : a.sent ≡ b.sent
+  pub fed : a.fed ≡ b.fed
+
+login_alike : (t : Target) (a : Answer) (v : Verdict) → AreAlike (logged_in_by (bare t) a v) (logged_in_by t a v)
+login_alike t a verdict.Going = record { target = ap (λ (z : List Link). with_links t z) (bare_twice t.links); standing = refl; sent = refl; fed = refl }
+login_alike t a verdict.Closed = record { target = ap (λ (z : List Link). with_links t z) (bare_twice t.links); standing = refl; sent = refl; fed = refl }
+login_alike t a (verdict.Done s) = record {
+  target = ap (λ (z : List Link). with_links (logged_in_by t a (verdict.Done s)).target z) (ended_bare (nexus_of s.who) t.links);
+  standing = refl;
+  sent = refl;
+  fed = refl;
+}
+
+pub step_alike : (t : Target) (s : Standing) (p : Pdu) → AreAlike (stepped (bare t) s p) (stepped t s p)
+step_alike t (standing.LoggingIn login) p =
+    login_alike (with_words t (turned t.rules t.handle login p t.words).words) (turned t.rules t.handle login p t.words).answer
+    (turned t.rules t.handle login p t.words).answer.verdict
+step_alike t (standing.Serving v) p = record {
+  target = ap (λ (z : List Link). with_links (stepped t (standing.Serving v) p).target z) (resets_bare (received v.session t.units t.listing v.held p).session.resets t.links);
+  standing = refl;
+  sent = refl;
+  fed = refl;
+}
+step_alike t standing.Ended p = record { target = ap (λ (z : List Link). with_links t z) (bare_twice t.links); standing = refl; sent = refl; fed = refl }
+step_alike t standing.Closed p = record { target = ap (λ (z : List Link). with_links t z) (bare_twice t.links); standing = refl; sent = refl; fed = refl }
+
+-- a connection that was ended is as a closed one
+pub step_shut : (t : Target) (s : Standing) (p : Pdu) → stepped t (shut s) p ≡ stepped t s p
+step_shut t (standing.LoggingIn login) p = refl
+step_shut t (standing.Serving v) p = refl
+step_shut t standing.Ended p = refl
+step_shut t standing.Closed p = refl
+
+-- the connection in its place, without bytes
+abbrev pub seat : ℕ → Standing → Target → Target
+seat n s u = with_links u (placed (link_at n no_bytes s) u.links)
+
+pub seat_bare : (n : ℕ) (splitter : State) (s : Step) → bare (put_back n splitter s) ≡ seat n (shut s.standing) (bare s.target)
+seat_bare n splitter s = ap (λ (z : List Link). with_links s.target z) (placed_map bare_link (λ l. refl) (link_at n splitter s.standing) s.target.links)
+
+pub heard_alike : (n : ℕ) (a b : Step) → AreAlike a b → heard n a ≡ heard n b
+heard_alike n a b are =
+    ap (λ (z : Target). record { target = z; sent = a.sent }) (seat_bare n no_bytes a)
+    ∙ ap (λ (z : Target). record { target = seat n (shut a.standing) z; sent = a.sent }) are.target
+    ∙ ap (λ (z : Standing). record { target = seat n (shut z) (bare b.target); sent = a.sent }) are.standing
+    ∙ ap (λ (z : List Pdu). record { target = seat n (shut b.standing) (bare b.target); sent = z }) are.sent
+    ∙ ap (λ (z : Target). record { target = z; sent = b.sent }) (sym (seat_bare n no_bytes b))
+
+-- the connection is aside
+pub record IsAside (n : ℕ) (ls : List Link) : Type 0 where
+  pub link : Link
+  pub found : link_of n ls ≡ Some link
+  pub closed : link.standing ≡ standing.Closed
+
+aside_ended : (n : ℕ) (nexus : List ℕ) (ls : List Link) → IsAside n ls → IsAside n (map (ended_by nexus) ls)
+aside_ended n nexus ls a = record {
+  link = ended_by nexus a.link;
+  found = link_map (ended_by nexus) (λ l. refl) n ls ∙ ap (over (ended_by nexus)) a.found;
+  closed = ap (ended_standing nexus) a.closed;
+}
+
+aside_resets : (n : ℕ) (resets : List Reset) (ls : List Link) → IsAside n ls → IsAside n (reset_links resets ls)
+aside_resets n [] ls a = a
+aside_resets n (reset ∷ resets) ls a = aside_resets n resets (map (reset_link reset) ls) (record {
+  link = reset_link reset a.link;
+  found = link_map (reset_link reset) (λ l. refl) n ls ∙ ap (over (reset_link reset)) a.found;
+  closed = ap (reset_standing reset) a.closed;
+})
+
+aside_login : (n : ℕ) (t : Target) (a : Answer) (v : Verdict) → IsAside n t.links → IsAside n (logged_in_by t a v).target.links
+aside_login n t a verdict.Going h = h
+aside_login n t a verdict.Closed h = h
+aside_login n t a (verdict.Done s) h = aside_ended n (nexus_of s.who) t.links h
+
+pub aside_step : (n : ℕ) (t : Target) (s : Standing) (p : Pdu) → IsAside n t.links → IsAside n (stepped t s p).target.links
+aside_step n t (standing.LoggingIn login) p h =
+    aside_login n (with_words t (turned t.rules t.handle login p t.words).words) (turned t.rules t.handle login p t.words).answer
+    (turned t.rules t.handle login p t.words).answer.verdict h
+aside_step n t (standing.Serving v) p h = aside_resets n (received v.session t.units t.listing v.held p).session.resets t.links h
+aside_step n t standing.Ended p h = h
+aside_step n t standing.Closed p h = h
+
+pub aside_steps : (n : ℕ) (t : Target) (s : Standing) (ps : List Pdu) → IsAside n t.links → IsAside n (steps t s ps).target.links
+aside_steps n t s [] h = h
+aside_steps n t s (p ∷ ps) h = go a.fed (aside_step n t s p h) (λ now. aside_steps n a.target a.standing ps now) where
+  a : Step
+  a = stepped t s p
+
+  go : (f : Fed) → IsAside n a.target.links → (IsAside n a.target.links → IsAside n (steps a.target a.standing ps).target.links)
+      → IsAside n (one_then f a (steps a.target a.standing ps)).target.links
+  go Closed now more = now
+  go Going now more = more now
+
+-- a connection that is there
+pub is_aside : (n : ℕ) (ls : List Link) (l : Link) → link_of n ls ≡ Some l → IsAside n (placed (closed_link n) ls)
+is_aside n ls l found = record { link = closed_link n; found = link_placed (closed_link n) ls ∙ ap (over (λ k. closed_link n)) found; closed = refl }
+
+-- aside it changes nothing
+pub seat_closed : (n : ℕ) (t : Target) → IsAside n t.links → seat n standing.Closed (bare t) ≡ bare t
+seat_closed n t a =
+    ap (λ (z : List Link). with_links t z)
+    (ap (λ (s : Standing). placed (link_at n no_bytes (shut s)) (map bare_link t.links)) (sym a.closed)
+    ∙ placed_same n (map bare_link t.links) (bare_link a.link) (link_map bare_link (λ l. refl) n t.links ∙ ap (over bare_link) a.found))
+
+pub seat_again : (n : ℕ) (r s : Standing) (u : Target) → seat n r (seat n s u) ≡ seat n r u
+seat_again n r s u = ap (λ (z : List Link). with_links u z) (placed_twice (link_at n no_bytes r) (link_at n no_bytes s) u.links refl)
+
+-- where it stood before it was aside
+pub seat_before : (n : ℕ) (t : Target) (l : Link) → link_of n t.links ≡ Some l → seat n (shut l.standing) (bare (aside n t)) ≡ bare t
+seat_before n t l found =
+    ap (λ (z : List Link). with_links t (placed (link_at n no_bytes (shut l.standing)) z)) (placed_map bare_link (λ k. refl) (closed_link n) t.links)
+    ∙ ap (λ (z : List Link). with_links t z) (placed_twice (link_at n no_bytes (shut l.standing)) (closed_link n) (map bare_link t.links) refl)
+    ∙ ap (λ (z : List Link). with_links t z)
+    (placed_same n (map bare_link t.links) (bare_link l) (link_map bare_link (λ k. refl) n t.links ∙ ap (over bare_link) found))

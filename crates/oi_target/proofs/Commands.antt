@@ -1,0 +1,74 @@
+-- Commands of all connections, one after another.
+use Rattle.std.proofs.Common.{ℕ, ◌≡◌, ◌∙◌, Option, Some, None, List, [], ◌∷◌, ◌++◌, map, refl, ap, sym}
+use Rattle.oi_pdu.specs.declared.codec.Pdu.{Pdu}
+use Rattle.oi_target.proofs.Courses.{courses_are_events}
+use Rattle.oi_target.proofs.Joins.{step_units}
+use Rattle.oi_target.specs.Courses.{events_of}
+use Rattle.oi_target.specs.Events.{Event, Joined, Left, Told, Whole, Malformed, happened, heard_of, state_after}
+use Rattle.oi_target.specs.Runs.{AnswersAreReplies, CommandsInOrder, event_requests, link_requests, link_sent, replies_of, requests_of, step_requests, step_sent}
+use Rattle.oi_target.specs.Targets.{Target, aside, link_of}
+use Rattle.oi_target.specs.declared.config.TargetConfig.{TargetConfig}
+use Rattle.oi_target.specs.declared.link.Link.{Link}
+use Rattle.oi_target.specs.Steps.{stepped}
+use Rattle.oi_target.specs.declared.link.Standing.{Standing}
+use Rattle.oi_target.specs.declared.link.Standing.TheVariants as standing
+use Rattle.oi_target_session.proofs.Answered.{replies_are_sent}
+use Rattle.oi_target_session.proofs.Executed.{joined_units}
+use Rattle.oi_target_session.specs.Arrivals.{place_of}
+use Rattle.oi_units.specs.Runs.{Request, replies, units_after}
+use Rattle.oi_units.specs.Units.{executed, fresh_unit}
+use Rattle.oi_units.specs.declared.reply.UnitReply.{UnitReply}
+use Rattle.oi_units.specs.declared.unit.LogicalUnit.{LogicalUnit}
+
+link_units : (t : Target) (n : ℕ) (o : Option Link) (p : Pdu) → (heard_of t n o p).target.units ≡ units_after t.units (link_requests t n o p)
+link_units t n None p = refl
+link_units t n (Some l) p = step_units (aside n t) l.standing p
+
+event_units : (t : Target) (e : Event) → (happened t e).target.units ≡ units_after t.units (event_requests t e)
+event_units t (Joined n) = refl
+event_units t (Left n) = refl
+event_units t (Told listing) = refl
+event_units t (Whole n p) = link_units t n (link_of n t.links) p
+event_units t (Malformed n) = refl
+
+units_at : (c : TargetConfig) (es : List Event) → (state_after c es).units ≡ units_after (map fresh_unit c.blocks) (requests_of c es)
+units_at c [] = refl
+units_at c (e ∷ es) =
+    joined_units (map fresh_unit c.blocks) (state_after c es).units (state_after c (e ∷ es)).units (requests_of c es)
+    (event_requests (state_after c es) e) (units_at c es) (event_units (state_after c es) e)
+
+replies_join : (units : List LogicalUnit) (first second : List Request)
+    → replies units (first ++ second) ≡ replies units first ++ replies (units_after units first) second
+replies_join units [] second = refl
+replies_join units (r ∷ rs) second =
+    ap (λ (z : List UnitReply). (executed units r.nexus r.command r.payload).reply ∷ z)
+    (replies_join (executed units r.nexus r.command r.payload).units rs second)
+
+replies_at : (c : TargetConfig) (es : List Event) → replies_of c es ≡ replies (map fresh_unit c.blocks) (requests_of c es)
+replies_at c [] = refl
+replies_at c (e ∷ es) =
+    ap (λ (z : List UnitReply). z ++ replies (state_after c es).units (event_requests (state_after c es) e)) (replies_at c es)
+    ∙ ap (λ (u : List LogicalUnit). replies (map fresh_unit c.blocks) (requests_of c es) ++ replies u (event_requests (state_after c es) e)) (units_at c es)
+    ∙ sym (replies_join (map fresh_unit c.blocks) (requests_of c es) (event_requests (state_after c es) e))
+
+pub commands_in_order : CommandsInOrder
+commands_in_order c calls numbered =
+    (ap (λ (t : Target). t.units) (courses_are_events c calls numbered) ∙ units_at c (events_of calls), replies_at c (events_of calls))
+
+step_answers : (t : Target) (s : Standing) (p : Pdu) → (stepped t s p).sent ≡ step_sent t s p (replies t.units (step_requests t s p))
+step_answers t (standing.LoggingIn login) p = refl
+step_answers t (standing.Serving v) p =
+    replies_are_sent (place_of v.session.discovers v.session.numbers.exp.0 p.head) v.session t.units t.listing v.held p
+step_answers t standing.Ended p = refl
+step_answers t standing.Closed p = refl
+
+link_answers : (t : Target) (n : ℕ) (o : Option Link) (p : Pdu) → (heard_of t n o p).sent ≡ link_sent t n o p (replies t.units (link_requests t n o p))
+link_answers t n None p = refl
+link_answers t n (Some l) p = step_answers (aside n t) l.standing p
+
+pub answers_are_replies : AnswersAreReplies
+answers_are_replies t (Joined n) = refl
+answers_are_replies t (Left n) = refl
+answers_are_replies t (Told listing) = refl
+answers_are_replies t (Whole n p) = link_answers t n (link_of n t.links) p
+answers_are_replies t (Malformed n) = refl

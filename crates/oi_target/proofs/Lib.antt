@@ -1,0 +1,14 @@
+pub mod Bared
+pub mod Came
+pub mod Changes
+pub mod Commands
+pub mod Courses
+pub mod Framed
+pub mod Joins
+pub mod Linked
+pub mod Numbered
+pub mod Placed
+pub mod Places
+pub mod Shown
+pub mod Stays
+pub mod Walked

@@ -1,0 +1,6 @@
+pub mod Answers
+pub mod Chap
+pub mod Logins
+pub mod Names
+pub mod Runs
+pub mod Texts
