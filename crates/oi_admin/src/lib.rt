@@ -6,8 +6,6 @@ mod fault;
 mod listing;
 mod readings;
 mod rows;
-#[cfg(test)]
-mod tests;
 mod tool;
 mod words;
 

@@ -6,8 +6,6 @@ mod blocks;
 mod command;
 mod disk;
 mod serve;
-#[cfg(test)]
-mod tests;
 
 pub use answer::{DiskAnswer, good, illegal_request};
 pub use command::{Command, read_command};

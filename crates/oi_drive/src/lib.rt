@@ -3,8 +3,6 @@
 
 mod acting;
 mod answer;
-#[cfg(test)]
-mod cases;
 mod deeds;
 mod ended;
 mod handing;
@@ -13,8 +11,6 @@ mod link;
 mod reading;
 mod runner;
 mod taking;
-#[cfg(test)]
-mod tests;
 mod writing;
 
 pub use ended::{Ended, drive_main};

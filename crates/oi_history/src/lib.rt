@@ -33,11 +33,7 @@ mod submissions;
 mod tables;
 mod tally;
 mod task;
-#[cfg(test)]
-mod tests;
 mod trace;
-#[cfg(test)]
-mod trace_tests;
 mod tracker;
 mod turn;
 

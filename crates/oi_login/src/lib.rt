@@ -15,8 +15,6 @@ mod progress;
 mod redirection;
 mod refusals;
 mod request;
-#[cfg(test)]
-mod tests;
 mod turns;
 
 pub use config::{LoginAuth, LoginConfig};

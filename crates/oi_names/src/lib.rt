@@ -8,8 +8,6 @@ mod laws;
 mod portal;
 mod reach;
 mod session_key;
-#[cfg(test)]
-mod tests;
 
 pub use fault::NameFault;
 pub use iscsi_name::IscsiName;

@@ -7,8 +7,6 @@ mod laws;
 mod negotiation;
 mod offer;
 mod rows;
-#[cfg(test)]
-mod tests;
 mod values;
 
 pub use keys::{Key, NumberKey, WordKey, key_named};

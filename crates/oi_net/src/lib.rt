@@ -6,14 +6,10 @@ mod folder;
 mod folder_store;
 mod loop_link;
 mod loop_net;
-#[cfg(test)]
-mod net_tests;
 mod paths;
 mod std_sink;
 mod std_source;
 mod system_clock;
-#[cfg(test)]
-mod tests;
 
 pub use folder_store::FolderStore;
 pub use loop_link::{LoopRead, LoopWrite};

@@ -10,8 +10,6 @@ mod load;
 mod place;
 mod sessions;
 mod stored;
-#[cfg(test)]
-mod tests;
 
 pub use db::NodeDb;
 pub use error::DbError;

@@ -23,15 +23,11 @@ mod mem_store;
 mod mem_write;
 mod net;
 mod net_error;
-#[cfg(test)]
-mod net_tests;
 mod record_store;
 mod schedule;
 mod sink;
 mod source;
 mod store_error;
-#[cfg(test)]
-mod tests;
 mod waiting_end;
 mod writing;
 

@@ -16,6 +16,3 @@ pub use header::{
     TextRequest, TextResponse,
 };
 pub use laws::encoded_decodes;
-
-#[cfg(test)]
-mod vectors;

@@ -10,8 +10,6 @@ mod order;
 mod registered;
 mod report;
 mod table;
-#[cfg(test)]
-mod tests;
 
 pub use access::{Wish, wish_of};
 pub use answer::ReserveAnswer;

@@ -11,8 +11,6 @@ mod printing;
 mod reading;
 mod requests;
 mod settings;
-#[cfg(test)]
-mod tests;
 
 pub use line::{DriveLine, LineFault};
 pub use notices::{Refusal, lost_line, refused_line, stale_line, status_line, window_line};

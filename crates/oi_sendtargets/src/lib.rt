@@ -5,8 +5,6 @@ mod found;
 mod laws;
 mod parts;
 mod read;
-#[cfg(test)]
-mod tests;
 mod write;
 
 pub use found::{Found, TargetsFault};

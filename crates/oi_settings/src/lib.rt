@@ -10,8 +10,6 @@ mod range;
 mod record;
 mod schema;
 mod settings;
-#[cfg(test)]
-mod tests;
 mod text;
 
 pub use key::{RecordKey, path_of};

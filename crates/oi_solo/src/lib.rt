@@ -10,8 +10,6 @@ mod laws;
 mod load;
 mod run;
 mod solo;
-#[cfg(test)]
-mod tests;
 mod turn;
 
 pub use answers::{

@@ -15,5 +15,3 @@ pub use laws::{
 pub use pieces::frame_pieces;
 pub use splitter::Splitter;
 
-#[cfg(test)]
-mod tests;

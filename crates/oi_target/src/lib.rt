@@ -7,8 +7,6 @@ mod laws;
 mod link;
 mod steps;
 mod target;
-#[cfg(test)]
-mod tests;
 
 pub use config::TargetConfig;
 pub use laws::{

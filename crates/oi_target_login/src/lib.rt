@@ -14,8 +14,6 @@ mod pairs;
 mod progress;
 mod replies;
 mod status;
-#[cfg(test)]
-mod tests;
 mod turns;
 
 pub use answer::{NewSession, Verdict};

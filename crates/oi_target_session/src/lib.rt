@@ -22,6 +22,3 @@ pub use limits::{Limits, Numbers};
 pub use reset::Reset;
 pub use session::Session;
 pub use task::Task;
-
-#[cfg(test)]
-mod tests;

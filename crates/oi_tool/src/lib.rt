@@ -5,7 +5,5 @@ mod asking;
 mod ending;
 mod running;
 mod stop;
-#[cfg(test)]
-mod tests;
 
 pub use running::run_tool;

@@ -14,5 +14,3 @@ pub use reply::{Lent, UnitReply};
 pub use unit::LogicalUnit;
 pub use units::Units;
 
-#[cfg(test)]
-mod tests;

@@ -1,0 +1,5 @@
+//! Tests of `oi_admin`.
+#![tactic(auto)]
+
+#[cfg(test)]
+mod tests;

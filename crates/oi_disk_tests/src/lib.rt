@@ -1,0 +1,5 @@
+//! Tests of `oi_disk`.
+#![tactic(auto)]
+
+#[cfg(test)]
+mod tests;

@@ -1,0 +1,5 @@
+//! Tests of `oi_names`.
+#![tactic(auto)]
+
+#[cfg(test)]
+mod tests;

@@ -1,0 +1,5 @@
+//! Tests of `oi_negotiate`.
+#![tactic(auto)]
+
+#[cfg(test)]
+mod tests;

@@ -1,0 +1,5 @@
+//! Tests of `oi_nodedb`.
+#![tactic(auto)]
+
+#[cfg(test)]
+mod tests;

@@ -1,0 +1,5 @@
+//! Tests of `oi_pdu`.
+#![tactic(auto)]
+
+#[cfg(test)]
+mod vectors;

@@ -1,0 +1,5 @@
+//! Tests of `oi_reserve`.
+#![tactic(auto)]
+
+#[cfg(test)]
+mod tests;

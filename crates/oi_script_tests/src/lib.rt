@@ -1,0 +1,5 @@
+//! Tests of `oi_script`.
+#![tactic(auto)]
+
+#[cfg(test)]
+mod tests;

@@ -1,0 +1,5 @@
+//! Tests of `oi_sendtargets`.
+#![tactic(auto)]
+
+#[cfg(test)]
+mod tests;

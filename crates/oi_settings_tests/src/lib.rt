@@ -1,0 +1,5 @@
+//! Tests of `oi_settings`.
+#![tactic(auto)]
+
+#[cfg(test)]
+mod tests;

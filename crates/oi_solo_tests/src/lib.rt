@@ -1,0 +1,5 @@
+//! Tests of `oi_solo`.
+#![tactic(auto)]
+
+#[cfg(test)]
+mod tests;

@@ -1,0 +1,355 @@
+ghost use Rattle.std.specs.Prelude.{◌≤◌, IfOk};
+ghost use Rattle.oi_history.specs.Configs.{IsValidConfig};
+ghost use Rattle.oi_scsi.specs.Requests.{IsValid};
+
+use oi_base::{Blob, LoginDone, Params, Serial, Tag};
+use oi_history::{
+    Delivered, End, Event, Handler, LostCause, Outcome, Phase, SessionConfig, Subject,
+};
+use oi_pdu::{Header, Pdu, R2t, received};
+use oi_recovery::{HostCode, Residual};
+use oi_scsi::{Kind, Request};
+use oi_solo::*;
+use std::alloc::Global;
+use std::process::Abort;
+use std::test::Fail;
+
+fn config() -> SessionConfig
+    ensures { IsValidConfig result }
+{
+    SessionConfig {
+        sid: 1,
+        tries: 6,
+        replacement: 120,
+        noop_interval: 5,
+        noop_timeout: 5,
+        abort: 15,
+        lun_reset: 30,
+        target_reset: 30,
+        logout: 15,
+        cmds_max: 128,
+        steps: 64,
+        kept: 65_536,
+        queue_depth: 32,
+        count_disrupted: true,
+    }
+}
+
+fn login(max: u32) -> LoginDone
+    ensures { 1 ≤ result.params.max_send }
+{
+    LoginDone {
+        params: Params {
+            initial_r2t: true,
+            immediate: false,
+            max_send: 8192,
+            max_recv: 262_144,
+            max_burst: 262_144,
+            first_burst: 65_536,
+            outstanding: 1,
+            time2wait: 2,
+            time2retain: 20,
+        },
+        tsih: 1,
+        cmdsn: 1,
+        max,
+        exp_stat: 5,
+    }
+}
+
+fn capacity() -> Request
+    ensures { IsValid result.kind }
+{
+    Request {
+        lun: 0,
+        kind: Kind::Capacity,
+    }
+}
+
+// A session with one request, in the full feature phase of its first connection.
+fn started(alloc: Global) -> Result<Solo, Fail> {
+    let mut session = Solo::new(alloc, config())?;
+    session.submit(capacity())?;
+    session.logged_in(login(32))?;
+    Ok(session)
+}
+
+// SCSI Data-In with 8 bytes and the status GOOD for tag 0.
+const CAPACITY_REPLY: [u8; 48] = [
+    0x25, 0x81, 0, 0, 0, 0, 0, 8, 0, 0, 0, 0, 0, 0, 0, 0, 0, 0, 0, 0, 0xff, 0xff, 0xff, 0xff, 0, 0,
+    0, 5, 0, 0, 0, 2, 0, 0, 0, 0x21, 0, 0, 0, 0, 0, 0, 0, 0, 0, 0, 0, 0,
+];
+
+const CAPACITY_DATA: [u8; 8] = [0, 0, 3, 0xff, 0, 0, 2, 0];
+
+fn capacity_reply(alloc: Global) -> Result<Pdu, Fail> {
+    let payload = Blob::from_slice(alloc, &CAPACITY_DATA)?;
+    Ok(received(&CAPACITY_REPLY, payload)?)
+}
+
+// READ CAPACITY(10) with tag 0, CmdSN 1 and ExpStatSN 5.
+const CAPACITY_COMMAND: [u8; 48] = [
+    1, 0xc1, 0, 0, 0, 0, 0, 0, 0, 0, 0, 0, 0, 0, 0, 0, 0, 0, 0, 0, 0, 0, 0, 8, 0, 0, 0, 1, 0, 0, 0,
+    5, 0x25, 0, 0, 0, 0, 0, 0, 0, 0, 0, 0, 0, 0, 0, 0, 0,
+];
+
+fn issued(id: u64, generation: u64, tag: u32, cmdsn: u32) -> Transmit {
+    Transmit::Sent(Event::Issue {
+        id,
+        generation,
+        tag: Tag(tag),
+        cmdsn,
+    })
+}
+
+#[test]
+fn capacity_is_read(rt: HostRuntime) -> Result<(), Fail> {
+    let mut session = started(rt.alloc())?;
+    let mut out = Vec::new(rt.alloc());
+    assert_eq!(rt; session.transmit_next(1, &mut out)?, issued(0, 1, 0, 1));
+    assert!(rt; out.as_slice() == CAPACITY_COMMAND.as_slice());
+    assert_eq!(rt; session.transmit_next(1, &mut out)?, Transmit::Idle);
+    assert_eq!(rt;
+        session.receive(1, capacity_reply(rt.alloc())?)?,
+        Received::Applied
+    );
+    let mut outcomes = Vec::new(rt.alloc());
+    assert_eq!(rt; session.deliver(&mut outcomes)?, 1);
+    let outcome = Outcome::Answered {
+        status: 0,
+        residual: Residual::Exact,
+        sense: Blob::new(rt.alloc()),
+        got: Blob::from_slice(rt.alloc(), &CAPACITY_DATA)?,
+    };
+    assert!(rt; outcomes.first() == Some(&Delivered { id: 0, outcome }));
+    Ok(())
+}
+
+// The command is sent again on a new connection; a reply on the old one with the same tag counts for nothing.
+#[test]
+fn old_connection_is_stale(rt: HostRuntime) -> Result<(), Fail> {
+    let mut session = started(rt.alloc())?;
+    let mut out = Vec::new(rt.alloc());
+    session.transmit_next(1, &mut out)?;
+    assert_eq!(rt; session.lost(1, LostCause::Cut)?, LostDone::Lost);
+    assert_eq!(rt; session.logged_in(login(32))?, 2);
+    assert_eq!(rt;
+        session.receive(1, capacity_reply(rt.alloc())?)?,
+        Received::Stale { current: 2 }
+    );
+    assert_eq!(rt; session.pending(), 1);
+    assert_eq!(rt;
+        session.transmit_next(1, &mut out)?,
+        Transmit::Changed { current: 2 }
+    );
+    assert_eq!(rt;
+        session.transmit_next(2, &mut out)?,
+        issued(0, 2, 0x1000_0000, 1)
+    );
+    Ok(())
+}
+
+fn write(alloc: Global) -> Result<Request, Fail>
+    ensures { IfOk result (λ r. IsValid r.kind) }
+{
+    let payload = Blob::from_vec(vec![in alloc; 0x5au8; 512]?);
+    Ok(Request {
+        lun: 0,
+        kind: Kind::Write {
+            lba: 0,
+            blocks: 1,
+            payload,
+        },
+    })
+}
+
+fn r2t(alloc: Global) -> Pdu {
+    Pdu {
+        head: Header::R2t(R2t {
+            lun: [0; 8],
+            tag: Tag(0),
+            ttt: 1,
+            stat: Serial(5),
+            exp: Serial(2),
+            max: Serial(33),
+            number: 0,
+            offset: 0,
+            length: 512,
+        }),
+        payload: Blob::new(alloc),
+    }
+}
+
+// An R2T is taken up, and the data that it asks for follow.
+#[test]
+fn data_are_solicited(rt: HostRuntime) -> Result<(), Fail> {
+    let mut session = Solo::new(rt.alloc(), config())?;
+    session.submit(write(rt.alloc())?)?;
+    session.logged_in(login(32))?;
+    let mut out = Vec::new(rt.alloc());
+    session.transmit_next(1, &mut out)?;
+    session.receive(1, r2t(rt.alloc()))?;
+    out.clear();
+    let push = Event::Push {
+        id: 0,
+        generation: 1,
+        ttt: 1,
+        number: 0,
+        offset: 0,
+        length: 512,
+        last: true,
+    };
+    assert_eq!(rt; session.transmit_next(1, &mut out)?, Transmit::Sent(push));
+    assert_eq!(rt; out.len(), 560);
+    Ok(())
+}
+
+// No command is sent past MaxCmdSN.
+#[test]
+fn window_closes(rt: HostRuntime) -> Result<(), Fail> {
+    let mut session = Solo::new(rt.alloc(), config())?;
+    session.submit(capacity())?;
+    session.submit(capacity())?;
+    session.logged_in(login(1))?;
+    let mut out = Vec::new(rt.alloc());
+    assert_eq!(rt; session.transmit_next(1, &mut out)?, issued(0, 1, 0, 1));
+    assert_eq!(rt; session.transmit_next(1, &mut out)?, Transmit::Idle);
+    Ok(())
+}
+
+#[test]
+fn pings_are_timed(rt: HostRuntime) -> Result<(), Fail> {
+    let mut session = Solo::new(rt.alloc(), config())?;
+    session.logged_in(login(32))?;
+    session.tick(5000)?;
+    let mut out = Vec::new(rt.alloc());
+    let ping = Event::Nop {
+        generation: 1,
+        tag: 0x0800_0000,
+        ttt: u32::MAX,
+        lun: [0; 8],
+    };
+    assert_eq!(rt; session.transmit_next(1, &mut out)?, Transmit::Sent(ping));
+    assert_eq!(rt; session.lost(1, LostCause::Ping)?, LostDone::NotSo);
+    let late = Ticked {
+        ping: true,
+        handler: false,
+    };
+    assert_eq!(rt; session.tick(10_000)?, late);
+    assert_eq!(rt; session.lost(1, LostCause::Ping)?, LostDone::Lost);
+    Ok(())
+}
+
+#[test]
+fn refusals_without_a_connection(rt: HostRuntime) -> Result<(), Fail> {
+    let mut session = Solo::new(rt.alloc(), config())?;
+    let mut out = Vec::new(rt.alloc());
+    let phase = Phase::First;
+    assert_eq!(rt;
+        session.transmit_next(1, &mut out)?,
+        Transmit::NotLoggedIn { phase }
+    );
+    assert_eq!(rt;
+        session.lost(1, LostCause::Cut)?,
+        LostDone::Stale { current: 0 }
+    );
+    assert_eq!(rt;
+        session.abort(0),
+        Err(AbortRefused::Unknown { submitted: 0 })
+    );
+    assert_eq!(rt;
+        session.reset_lun(0),
+        Err(ControlRefused::NotLoggedIn { phase })
+    );
+    assert_eq!(rt; session.leave(), Err(ControlRefused::NotLoggedIn { phase }));
+    Ok(())
+}
+
+#[test]
+fn refusals_on_a_connection(rt: HostRuntime) -> Result<(), Fail> {
+    let mut session = started(rt.alloc())?;
+    let mut out = Vec::new(rt.alloc());
+    session.transmit_next(1, &mut out)?;
+    session.abort(0)?;
+    let running = Handler::Aborting {
+        id: 0,
+        tag: None,
+        since: 0,
+    };
+    assert_eq!(rt;
+        session.logged_in(login(32)),
+        Err(LoginRefused::LoggedIn { current: 1 })
+    );
+    assert_eq!(rt; session.abort(0), Err(AbortRefused::Busy { running }));
+    assert_eq!(rt;
+        session.reset_target(),
+        Err(ControlRefused::Busy { running })
+    );
+    let abort = Event::Manage {
+        generation: 1,
+        tag: Tag(0x0800_0000),
+        function: 1,
+        subject: Subject::Task(0),
+    };
+    assert_eq!(rt; session.transmit_next(1, &mut out)?, Transmit::Sent(abort));
+    Ok(())
+}
+
+#[test]
+fn refusals_behind_the_end(rt: HostRuntime) -> Result<(), Fail> {
+    let mut session = started(rt.alloc())?;
+    let cause = End::Asked;
+    assert_eq!(rt; session.terminate(cause), Ok(()));
+    assert_eq!(rt;
+        session.terminate(End::InputEnd),
+        Err(AlreadyEnded { cause })
+    );
+    assert_eq!(rt;
+        session.submit(capacity()),
+        Err(SubmitRefused::Ended { cause })
+    );
+    assert_eq!(rt;
+        session.logged_in(login(32)),
+        Err(LoginRefused::Ended { cause })
+    );
+    assert_eq!(rt; session.abort(0), Err(AbortRefused::TooLate { at: 2 }));
+    let mut outcomes = Vec::new(rt.alloc());
+    assert_eq!(rt; session.deliver(&mut outcomes)?, 1);
+    let outcome = Outcome::Host(HostCode::NoConnect);
+    assert!(rt; outcomes.first() == Some(&Delivered { id: 0, outcome }));
+    assert_eq!(rt; session.close().events().len(), 4);
+    Ok(())
+}
+
+// Sixteen entries of each half are kept back for the end.
+#[test]
+fn history_is_bounded(rt: HostRuntime) -> Result<(), Fail> {
+    let mut session = Solo::new(rt.alloc(), config())?;
+    for now in 0..48u64 {
+        session.tick(now)?;
+    }
+    let spent = StepRefused::Spent { steps: 48, kept: 0 };
+    assert_eq!(rt; session.tick(48), Err(spent));
+    assert_eq!(rt; session.terminate(End::Asked), Ok(()));
+    Ok(())
+}
+
+fn fill(rt: &impl Abort, session: &mut Solo) -> Result<(), Fail> {
+    for _i in 0..1024u32 {
+        session.submit(capacity())?;
+    }
+    assert_eq!(rt;
+        session.submit(capacity()),
+        Err(SubmitRefused::Full { waiting: 1024 })
+    );
+    Ok(())
+}
+
+#[test]
+fn submissions_are_bounded(rt: HostRuntime) -> Result<(), Fail> {
+    let config = SessionConfig {
+        steps: 2048,
+        ..config()
+    };
+    fill(&rt, &mut Solo::new(rt.alloc(), config)?)
+}

@@ -1,0 +1,5 @@
+//! Tests of `oi_stream`.
+#![tactic(auto)]
+
+#[cfg(test)]
+mod tests;

@@ -1,0 +1,468 @@
+ghost use Rattle.std.specs.Prelude.{◌≡◌, ◌∷◌, [], IfOk};
+
+use oi_base::Series;
+use oi_names::{IscsiName, Portal};
+use oi_sendtargets::Found;
+use oi_target::*;
+use std::alloc::Global;
+use std::process::Abort;
+use std::test::Fail;
+
+const FIRST: &[u8] =
+    b"InitiatorName=iqn.2024-01.org.example:initiator\0SessionType=Normal\0TargetName=iqn.2024-01.org.example:d1\0AuthMethod=None\0";
+
+const DISCOVERY: &[u8] = b"InitiatorName=i\0SessionType=Discovery\0AuthMethod=None\0";
+
+const LENGTHS: &[u8] = b"MaxRecvDataSegmentLength=65536\0";
+
+const NOTHING: &[u8] = b"";
+
+// Responses to a login under ISID 1: `TargetPortalGroupTag=1`, `AuthMethod=None`; `MaxRecvDataSegmentLength=65536`.
+const LOGIN: &str =
+    "238100000000002780000000000100000000000000000000000000010000000100000020000000000000000000000000546172676574506f7274616c47726f75705461673d3100417574684d6574686f643d4e6f6e650000";
+
+const LOGGED_IN: &str =
+    "238700000000001f800000000001000100000000000000000000000200000001000000200000000000000000000000004d617852656376446174615365676d656e744c656e6774683d36353533360000";
+
+// READ CAPACITY under tag 0 and CmdSN 1, and under tag 6 and CmdSN 2, with their answers in one Data-In.
+const CAPACITY: &str =
+    "01c100000000000000000000000000000000000000000008000000010000000325000000000000000000000000000000";
+
+const BLOCKS: &str =
+    "2581000000000008000000000000000000000000ffffffff000000030000000200000021000000000000000000000000000003ff00000200";
+
+const LATER_CAPACITY: &str =
+    "01c100000000000000000000000000000000000600000008000000020000000325000000000000000000000000000000";
+
+const LATER_BLOCKS: &str =
+    "2581000000000008000000000000000000000006ffffffff000000030000000300000022000000000000000000000000000003ff00000200";
+
+// WRITE(10) of 586 blocks under tag 5, and the R2T for its first 262,144 bytes.
+const WRITE: &str =
+    "01a10000000000000000000000000000000000050004940000000001000000032a000000000000024a00000000000000";
+
+const ASKED: &str =
+    "318000000000000000000000000000000000000500000001000000030000000200000021000000000000000000040000";
+
+// READ(10) of 600 blocks under tag 5.
+const READ: &str =
+    "01c10000000000000000000000000000000000050004b000000000010000000328000000000000025800000000000000";
+
+// ABORT TASK of tag 5, and TARGET WARM RESET.
+const ABORT: &str =
+    "428100000000000000000000000000000000000900000005000000030000000300000000000000000000000000000000";
+
+const RESET: &str =
+    "4286000000000000000000000000000000000009ffffffff000000010000000300000000000000000000000000000000";
+
+fn listed(alloc: Global, name: &str) -> Result<Found, Fail> {
+    let (portal, _) = Portal::read(alloc, "127.0.0.1:3260")?;
+    Ok(Found {
+        target: IscsiName::read(alloc, name)?,
+        portal,
+        tag: 1,
+    })
+}
+
+fn listing(alloc: Global) -> Result<Series<Found>, Fail> {
+    let mut listing = Vec::new(alloc);
+    listing.push(listed(alloc, "iqn.2024-01.org.example:d1")?)?;
+    listing.push(listed(alloc, "iqn.2024-01.org.example:d2")?)?;
+    Ok(Series::from_vec(listing))
+}
+
+fn settings(alloc: Global) -> Result<TargetConfig, Fail>
+    ensures { IfOk result (λ c. c.blocks ≡ 1024 ∷ []) }
+{
+    let (portal, _) = Portal::read(alloc, "127.0.0.1:3260")?;
+    Ok(TargetConfig {
+        name: IscsiName::read(alloc, "iqn.2024-01.org.example:d1")?,
+        portal,
+        tag: 1,
+        blocks: Series::from_vec(vec![in alloc; 1024]?),
+        chap: None,
+        listing: listing(alloc)?,
+        moved: None,
+    })
+}
+
+// A Login Request under this ISID, with this byte 1 and text.
+fn request(alloc: Global, flags: u8, isid: u8, text: &[u8]) -> Result<Vec<u8>, Fail> {
+    let size = u8::try_from(text.len())?;
+    let mut bytes = Vec::from_slice(
+        alloc,
+        &[
+            0x43, flags, 0, 0, 0, 0, 0, size, 0x80, 0, 0, 0, 0, isid, 0, 0, 0, 0, 0, 0, 0, 0, 0, 0,
+            0, 0, 0, 1, 0, 0, 0, 0, 0, 0, 0, 0, 0, 0, 0, 0, 0, 0, 0, 0, 0, 0, 0, 0,
+        ],
+    )?;
+    bytes.extend_from_slice(text)?;
+    for _ in 0..(4 - text.len() % 4) % 4 {
+        bytes.push(0)?;
+    }
+    Ok(bytes)
+}
+
+// A target, what it wrote last, and the size of the pieces in which bytes come.
+#[derive(Debug, Drop)]
+struct Bench {
+    alloc: Global,
+    target: Target,
+    out: Vec<u8>,
+    size: usize,
+}
+
+impl Bench {
+    fn new(alloc: Global, size: usize) -> Result<Bench, Fail> {
+        let settings = settings(alloc)?;
+        Ok(Bench {
+            alloc,
+            target: Target::new(alloc, settings)?,
+            out: Vec::new(alloc),
+            size,
+        })
+    }
+
+    // What becomes of these bytes, up to the piece that closes the connection.
+    fn meets(&mut self, connection: u32, bytes: &[u8]) -> Result<Fed, Fail> {
+        self.out.clear();
+        for piece in bytes.chunks(self.size.max(1)) {
+            let fed = self.target.feed(connection, piece, &mut self.out)?;
+            if fed == Fed::Closed {
+                return Ok(Fed::Closed);
+            }
+        }
+        Ok(Fed::Going)
+    }
+
+    // These bytes in hex, with so many bytes of data behind them, are answered so.
+    fn answers(
+        &mut self,
+        rt: &impl Abort,
+        connection: u32,
+        (sent, size): (&str, usize),
+        (fed, wanted): (Fed, &str),
+    ) -> Result<(), Fail> {
+        let mut bytes = hex::decode(self.alloc, sent)?;
+        bytes.extend_from_slice(&vec![in self.alloc; 0x5a; size]?)?;
+        assert_eq!(rt; self.meets(connection, &bytes)?, fed);
+        let written = hex::encode(self.alloc, self.out.as_slice())?;
+        assert_eq!(rt; written.as_str(), wanted);
+        Ok(())
+    }
+
+    // The connection stays.
+    fn goes_on(
+        &mut self,
+        rt: &impl Abort,
+        connection: u32,
+        sent: &str,
+        wanted: &str,
+    ) -> Result<(), Fail> {
+        self.answers(rt, connection, (sent, 0), (Fed::Going, wanted))
+    }
+
+    // A new connection in its full feature phase.
+    fn logs_in(&mut self, connection: u32, isid: u8, first: &[u8]) -> Result<(), Fail> {
+        self.target.connected(connection)?;
+        let bytes = request(self.alloc, 0x81, isid, first)?;
+        self.meets(connection, &bytes)?;
+        let bytes = request(self.alloc, 0x87, isid, LENGTHS)?;
+        self.meets(connection, &bytes)?;
+        Ok(())
+    }
+}
+
+// A target with a session under ISID 1 on connection 1.
+fn serving(alloc: Global) -> Result<Bench, Fail> {
+    let mut bench = Bench::new(alloc, 1000)?;
+    bench.logs_in(1, 1, FIRST)?;
+    Ok(bench)
+}
+
+// A login, one command, and the same command again, in pieces of this size.
+fn answers_capacity(rt: &impl Abort, a: Global, size: usize) -> Result<(), Fail> {
+    let mut bench = Bench::new(a, size)?;
+    bench.target.connected(1)?;
+    let sent = hex::encode(a, request(a, 0x81, 1, FIRST)?.as_slice())?;
+    bench.goes_on(rt, 1, sent.as_str(), LOGIN)?;
+    let sent = hex::encode(a, request(a, 0x87, 1, NOTHING)?.as_slice())?;
+    bench.goes_on(rt, 1, sent.as_str(), LOGGED_IN)?;
+    bench.goes_on(rt, 1, CAPACITY, BLOCKS)?;
+    bench.answers(rt, 1, (CAPACITY, 0), (Fed::Closed, ""))
+}
+
+#[test]
+fn target_answers_capacity(rt: HostRuntime) -> Result<(), Fail> {
+    for size in [1000, 7, 1] {
+        answers_capacity(&rt, rt.alloc(), size)?;
+    }
+    Ok(())
+}
+
+// 300,032 bytes: the target asks for 262,144 bytes, and for the rest.
+#[test]
+fn a_write_by_two_asks(rt: HostRuntime) -> Result<(), Fail> {
+    let mut bench = serving(rt.alloc())?;
+    bench.goes_on(&rt, 1, WRITE, ASKED)?;
+    for (sent, size, wanted) in [
+        (
+            "058000000001000000000000000000000000000500000001000000000000000300000000000000000000000000000000",
+            65536,
+            "",
+        ),
+        (
+            "058000000001000000000000000000000000000500000001000000000000000300000000000000000001000000000000",
+            65536,
+            "",
+        ),
+        (
+            "058000000001000000000000000000000000000500000001000000000000000300000000000000000002000000000000",
+            65536,
+            "",
+        ),
+        (
+            "058000000001000000000000000000000000000500000001000000000000000300000000000000000003000000000000",
+            65536,
+            "318000000000000000000000000000000000000500000002000000030000000200000021000000010004000000009400",
+        ),
+        (
+            "058000000000940000000000000000000000000500000002000000000000000300000000000000000004000000000000",
+            37888,
+            "218000000000000000000000000000000000000500000000000000030000000200000021000000020000000000000000",
+        ),
+    ] {
+        bench.answers(&rt, 1, (sent, size), (Fed::Going, wanted))?;
+    }
+    Ok(())
+}
+
+// 307,200 bytes in five pieces: the fourth one ends the first sequence, the fifth one the command.
+#[test]
+fn a_read_of_two_sequences(rt: HostRuntime) -> Result<(), Fail> {
+    let a = rt.alloc();
+    let mut bench = serving(a)?;
+    let bytes = hex::decode(a, READ)?;
+    assert_eq!(rt; bench.meets(1, &bytes)?, Fed::Going);
+    assert_eq!(rt; bench.out.len(), 307_200 + 5 * 48);
+    let heads = [
+        "2500000000010000000000000000000000000005ffffffff000000000000000200000021000000000000000000000000",
+        "2500000000010000000000000000000000000005ffffffff000000000000000200000021000000010001000000000000",
+        "2500000000010000000000000000000000000005ffffffff000000000000000200000021000000020002000000000000",
+        "2580000000010000000000000000000000000005ffffffff000000000000000200000021000000030003000000000000",
+        "258100000000b000000000000000000000000005ffffffff000000030000000200000021000000040004000000000000",
+    ];
+    for (piece, head) in bench.out.chunks(65_584).zip(heads) {
+        let head = hex::decode(a, head)?;
+        assert!(rt; piece.starts_with(head.as_slice()));
+    }
+    Ok(())
+}
+
+// A write that waits for data is aborted; the command behind it is executed then. A second abort finds no task.
+#[test]
+fn an_aborted_write(rt: HostRuntime) -> Result<(), Fail> {
+    let mut bench = serving(rt.alloc())?;
+    for (sent, wanted) in [
+        (WRITE, ASKED),
+        (LATER_CAPACITY, ""),
+        (
+            ABORT,
+            "2280000000000000000000000000000000000009000000000000000300000003000000220000000000000000000000002581000000000008000000000000000000000006ffffffff000000040000000300000022000000000000000000000000000003ff00000200",
+        ),
+        (
+            ABORT,
+            "228001000000000000000000000000000000000900000000000000050000000300000022000000000000000000000000",
+        ),
+    ] {
+        bench.goes_on(&rt, 1, sent, wanted)?;
+    }
+    Ok(())
+}
+
+// The next byte on the connection of the old session closes it, and has no other effect.
+#[test]
+fn a_second_login_of_one_initiator_port(rt: HostRuntime) -> Result<(), Fail> {
+    for (isid, fed, wanted) in [(1, Fed::Closed, ""), (2, Fed::Going, BLOCKS)] {
+        let mut bench = serving(rt.alloc())?;
+        bench.logs_in(2, isid, FIRST)?;
+        bench.goes_on(&rt, 1, "", "")?;
+        bench.answers(&rt, 1, (CAPACITY, 0), (fed, wanted))?;
+        bench.target.gone(1);
+        bench.goes_on(&rt, 2, CAPACITY, BLOCKS)?;
+    }
+    Ok(())
+}
+
+// A reset by one session ends the tasks of the others; what stands behind them is executed at the next PDU of their own.
+#[test]
+fn a_reset_ends_tasks_of_all_sessions(rt: HostRuntime) -> Result<(), Fail> {
+    let mut bench = serving(rt.alloc())?;
+    bench.logs_in(2, 2, FIRST)?;
+    bench.goes_on(&rt, 1, WRITE, ASKED)?;
+    bench.goes_on(
+        &rt,
+        2,
+        RESET,
+        "228000000000000000000000000000000000000900000000000000030000000100000020000000000000000000000000",
+    )?;
+    bench.goes_on(&rt, 1, LATER_CAPACITY, LATER_BLOCKS)
+}
+
+// Two targets with one address each are listed, and none after the listing was replaced. A command closes a discovery.
+#[test]
+fn a_discovery(rt: HostRuntime) -> Result<(), Fail> {
+    let a = rt.alloc();
+    let mut bench = Bench::new(a, 1000)?;
+    bench.logs_in(1, 0, DISCOVERY)?;
+    bench.goes_on(
+        &rt,
+        1,
+        "0480000000000010000000000000000000000001ffffffff00000001000000030000000000000000000000000000000053656e64546172676574733d416c6c00",
+        "248000000000008a000000000000000000000001ffffffff0000000300000002000000210000000000000000000000005461726765744e616d653d69716e2e323032342d30312e6f72672e6578616d706c653a643100546172676574416464726573733d3132372e302e302e313a333236302c31005461726765744e616d653d69716e2e323032342d30312e6f72672e6578616d706c653a643200546172676574416464726573733d3132372e302e302e313a333236302c31000000",
+    )?;
+    bench.target.list(Series::new(a));
+    bench.goes_on(
+        &rt,
+        1,
+        "0480000000000010000000000000000000000001ffffffff00000002000000030000000000000000000000000000000053656e64546172676574733d416c6c00",
+        "2480000000000000000000000000000000000001ffffffff000000040000000300000022000000000000000000000000",
+    )?;
+    let command =
+        "01c100000000000000000000000000000000000000000008000000030000000325000000000000000000000000000000";
+    bench.answers(&rt, 1, (command, 0), (Fed::Closed, ""))
+}
+
+// What comes while a write of 300,032 bytes under tag 5 waits for the data of its first R2T, and what it gets.
+const HOSTILE: [(&str, Fed, &str); 20] = [
+    // The tag of the waiting write.
+    (
+        "01c100000000000000000000000000000000000500000008000000020000000325000000000000000000000000000000",
+        Fed::Closed,
+        "",
+    ),
+    // A number that came before.
+    (
+        "01c100000000000000000000000000000000000600000008000000010000000325000000000000000000000000000000",
+        Fed::Closed,
+        "",
+    ),
+    // A number behind the window.
+    (
+        "01c100000000000000000000000000000000000600000008000000220000000325000000000000000000000000000000",
+        Fed::Closed,
+        "",
+    ),
+    // The last number of the window: held.
+    (
+        "01c100000000000000000000000000000000000600000008000000210000000325000000000000000000000000000000",
+        Fed::Going,
+        "",
+    ),
+    // Immediate data of a read.
+    (
+        "01c1000000000005000000000000000000000006000000080000000200000003250000000000000000000000000000006669766521000000",
+        Fed::Closed,
+        "",
+    ),
+    // More immediate data than the expected length.
+    (
+        "01a10000000000050000000000000000000000060000000400000002000000032a0000000000000000000000000000006669766521000000",
+        Fed::Closed,
+        "",
+    ),
+    // Less immediate data: the rest is asked for.
+    (
+        "01a10000000000050000000000000000000000060000000900000002000000032a0000000000000000000000000000006669766521000000",
+        Fed::Going,
+        "318000000000000000000000000000000000000600000002000000030000000300000022000000000000000500000004",
+    ),
+    // Data for another transfer tag.
+    (
+        "0580000000000005000000000000000000000005000000020000000000000003000000000000000000000000000000006669766521000000",
+        Fed::Closed,
+        "",
+    ),
+    // Data that leave a gap.
+    (
+        "0580000000000005000000000000000000000005000000010000000000000003000000000000000000000008000000006669766521000000",
+        Fed::Closed,
+        "",
+    ),
+    // Data of no task.
+    (
+        "0580000000000005000000000000000000000006000000090000000000000003000000000000000000000007000000006669766521000000",
+        Fed::Going,
+        "",
+    ),
+    // A Text Request.
+    (
+        "0480000000000010000000000000000000000006ffffffff00000002000000030000000000000000000000000000000053656e64546172676574733d416c6c00",
+        Fed::Closed,
+        "",
+    ),
+    // A Login Request.
+    (
+        "438100000000001080000000000000000000000000000000000000020000000000000000000000000000000000000000496e69746961746f724e616d653d6900",
+        Fed::Closed,
+        "",
+    ),
+    // A ping.
+    (
+        "4080000000000005000000000000000000000006ffffffff0000000200000003000000000000000000000000000000006669766521000000",
+        Fed::Going,
+        "2080000000000005000000000000000000000006ffffffff0000000300000002000000210000000000000000000000006669766521000000",
+    ),
+    // A ping without a tag.
+    (
+        "40800000000000050000000000000000ffffffffffffffff0000000200000003000000000000000000000000000000006669766521000000",
+        Fed::Going,
+        "",
+    ),
+    // A reset of the target.
+    (
+        "4286000000000000000000000000000000000009ffffffff000000020000000300000000000000000000000000000000",
+        Fed::Going,
+        "228000000000000000000000000000000000000900000000000000030000000200000021000000000000000000000000",
+    ),
+    // A reset of no logical unit.
+    (
+        "4285000000000000000700000000000000000009ffffffff000000020000000300000000000000000000000000000000",
+        Fed::Going,
+        "228002000000000000000000000000000000000900000000000000030000000200000021000000000000000000000000",
+    ),
+    // A logout.
+    (
+        "468000000000000000000000000000000000000900000000000000020000000300000000000000000000000000000000",
+        Fed::Closed,
+        "268000000000000000000000000000000000000900000000000000030000000200000021000000000000000000000000",
+    ),
+    // A PDU of a target.
+    (
+        "218000000000000000000000000000000000000500000000000000000000000000000000000000000000000000000000",
+        Fed::Closed,
+        "",
+    ),
+    // An unknown opcode.
+    (
+        "078000000000000000000000000000000000000500000000000000000000000000000000000000000000000000000000",
+        Fed::Closed,
+        "",
+    ),
+    // A longer segment than the target takes.
+    (
+        "058000000001000100000000000000000000000500000001000000000000000300000000000000000000000000000000",
+        Fed::Closed,
+        "",
+    ),
+];
+
+#[test]
+fn hostile_inputs(rt: HostRuntime) -> Result<(), Fail> {
+    for (sent, fed, wanted) in HOSTILE {
+        let mut bench = serving(rt.alloc())?;
+        bench.goes_on(&rt, 1, WRITE, ASKED)?;
+        bench.answers(&rt, 1, (sent, 0), (fed, wanted))?;
+    }
+    Ok(())
+}

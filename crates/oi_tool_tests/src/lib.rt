@@ -1,0 +1,5 @@
+//! Tests of `oi_tool`.
+#![tactic(auto)]
+
+#[cfg(test)]
+mod tests;

@@ -1,0 +1,5 @@
+//! Tests of `oi_units`.
+#![tactic(auto)]
+
+#[cfg(test)]
+mod tests;
