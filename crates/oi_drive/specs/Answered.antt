@@ -1,6 +1,6 @@
 -- How often the submissions of runs were answered.
+use Rattle.oi_session_laws.specs.Answers.{times}
 use Rattle.std.specs.Prelude.{◌≡◌, ◌≤◌, ◌<◌, ℕ, List, [], ◌∷◌, length}
-use Rattle.oi_laws.specs.Answers.{times}
 use Rattle.oi_solo.specs.Sessions.{RunView, Session, now_of, run_of}
 
 -- no submission of a run was answered twice

@@ -8,7 +8,7 @@ use Rattle.std.proofs.lemmas.List.Sums.{length-filter}
 use Rattle.std.proofs.lemmas.Bool.{false≢true}
 use Rattle.oi_history.specs.Judging.{IsJudged, first_broken}
 use Rattle.oi_history.specs.Ledgers.{CanAdvance, CanStep, IsLogin}
-use Rattle.oi_history.specs.Legality.{IsAbove}
+use Rattle.oi_history.specs.Histories.{IsAbove}
 use Rattle.oi_history.specs.Meanings.{Meanings, meanings}
 use Rattle.oi_history.specs.Permitted.{Breaks, Comes, DrawsAll, Fails, GoesOn, HandsOut, HasCause, IsAsked, IsFirstEnded, IsHeeded, IsNextCommand, IsNextData, IsNextLogin, IsNumbered, IsTagged, StandsBehind}
 use Rattle.oi_history.specs.Tasks.{due_from, due_in, due_of, is_due, is_waiting}

@@ -1,4 +1,3 @@
-pub mod Laws
 pub mod Places
 pub mod Recovered
 pub mod Standing

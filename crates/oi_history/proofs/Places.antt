@@ -1,14 +1,12 @@
 -- One place of a list changed, and lists changed at every place.
-use Rattle.std.proofs.Common.{◌≡◌, ◌<◌, ◌≤◌, ◌+◌, ◌∙◌, ℕ, suc, zero, List, [], ◌∷◌, ◌++◌, length, take, drop, map, sym, ap, refl, arith, add-one, append-nil, append_assoc, get_or, Some, None, Result, Ok, Err, OnOk, IfOk, Bool, not, ◌&&◌, slice_get, if◌then◌else◌}
+use Rattle.std.proofs.Common.{◌≡◌, ◌<◌, ◌+◌, ◌∙◌, ℕ, suc, zero, List, [], ◌∷◌, ◌++◌, length, take, drop, map, sym, ap, refl, arith, add-one, append-nil, append_assoc, get_or, Some, Result, Ok, Err, OnOk, slice_get}
 use Rattle.std.proofs.Math.ListN.{set}
 use Rattle.std.proofs.lemmas.List.{length-take-le, take_more}
 use Rattle.std.specs.List.{range_with_len}
 use Rattle.oi_base.specs.TagLayout.{command_tag}
 use Rattle.oi_base.specs.declared.tag.Tag.{Tag}
-use Rattle.oi_history.specs.Tags.{fresh_tags, holder}
-use Rattle.oi_history.specs.Snapshots.{ended_by_step}
-use Rattle.oi_history.specs.Tasks.{changed, changed_held, due_from, due_of, held, is_live_on}
-use Rattle.oi_history.specs.declared.allocated.Allocated.{Allocated}
+use Rattle.oi_history.specs.Tags.{fresh_tags}
+use Rattle.oi_history.specs.Tasks.{changed, due_from, due_of}
 use Rattle.oi_history.specs.declared.fate.Delivered.{Delivered}
 use Rattle.oi_history.specs.declared.task.Task.{Task}
 
@@ -18,13 +16,6 @@ changed-set zero f [] d h = absurd (omega arith)
 changed-set (suc id) f [] d h = absurd (omega arith)
 changed-set zero f (t ∷ ts) d h = refl
 changed-set (suc id) f (t ∷ ts) d h = ap (λ (z : List Task). t ∷ z) (changed-set id f ts d (omega arith))
-
--- nothing changes past the end
-pub changed_past : (id : ℕ) (f : Task → Task) (ts : List Task) → slice_get ts id ≡ None → changed id f ts ≡ ts
-changed_past zero f [] h = refl
-changed_past (suc id) f [] h = refl
-changed_past zero f (t ∷ ts) h = absurd cc
-changed_past (suc id) f (t ∷ ts) h = ap (λ (z : List Task). t ∷ z) (changed_past id f ts h)
 
 pub due_from-append : (n : ℕ) (xs ys : List Task) → due_from n (xs ++ ys) ≡ due_from n xs ++ due_from (n + length xs) ys
 due_from-append n [] ys = ap (λ m. due_from m ys) (omega arith)
@@ -90,24 +81,3 @@ get_is (t ∷ ts) (suc id) d h = get_is ts id d (omega arith)
 
 pub get_at : (id : ℕ) (ts : List Task) (x : Task) → id < length ts → x ≡ get_or ts id x → slice_get ts id ≡ Some x
 get_at id ts x h is = get_is ts id x h ∙ ap (λ (y : Task). Some y) (sym is)
-
--- whether the tag of the changed submission ended
-pub ends_at : {E : Type 0} (id : ℕ) (tag : Tag) (f : Task → Task) (ts : List Task) (x v : Task) (r : Result Bool E) → id < length ts → x ≡ get_or ts id x → OnOk r (v ≡ f x)
-    → IfOk r (λ over. over ≡ (is_live_on tag.0 x.fate && not (is_live_on tag.0 v.fate)))
-    → IfOk r (λ over. (if over then tag ∷ [] else []) ≡ ended_by_step tag (slice_get ts id) f)
-ends_at id tag f ts x v (Err e) h is makes over = over
-ends_at id tag f ts x v (Ok b) h is makes over =
-    rw (over, get_is ts id x h, ← is, makes) refl
-
-none_past : (ts : List Task) (id : ℕ) → length ts ≤ id → slice_get ts id ≡ None
-none_past [] id h = refl
-none_past (t ∷ ts) zero h = absurd (omega arith)
-none_past (t ∷ ts) (suc id) h = none_past ts id (omega arith)
-
--- a holder that is no submission
-pub held_past : (tag id : ℕ) (busy : List Allocated) (f : Task → Task) (ts : List Task) → holder tag busy ≡ Some id → length ts ≤ id → ts ≡ changed_held tag busy f ts
-held_past tag id busy f ts is past = rw is (sym (changed_past id f ts (none_past ts id past)))
-
-pub nothing_ends : (tag : Tag) (id : ℕ) (busy : List Allocated) (f : Task → Task) (ts : List Task) (ended new : List Tag) → holder tag.0 busy ≡ Some id → length ts ≤ id → new ≡ ended
-    → new ≡ ended ++ ended_by_step tag (held tag.0 busy ts) f
-nothing_ends tag id busy f ts ended new is past same = rw (is, none_past ts id past, append-nil) same

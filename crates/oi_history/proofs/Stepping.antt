@@ -18,7 +18,7 @@ use Rattle.oi_history.specs.Meanings.{Meanings, allocated_step, ended_step, is_c
 use Rattle.oi_history.specs.Phases.{generation_after}
 use Rattle.oi_history.specs.Queues.{queue_step, solicited_step}
 use Rattle.oi_history.specs.Recovering.{tasks_step}
-use Rattle.oi_history.specs.Snapshots.{broken_after, numbering_after, params_after, stat_after}
+use Rattle.oi_history.specs.ConnectionWords.{broken_after, numbering_after, params_after, stat_after}
 use Rattle.oi_history.specs.Tags.{free_after}
 use Rattle.oi_history.specs.Trackers.{tracked}
 use Rattle.oi_history.specs.declared.config.SessionConfig.{SessionConfig}

@@ -1,14 +1,12 @@
 pub mod Commands
 pub mod Configs
-pub mod States
 pub mod RuleWords
 pub mod Phases
 pub mod Tags
 pub mod Tasks
 pub mod Acceptance
-pub mod Snapshots
+pub mod ConnectionWords
 pub mod Histories
-pub mod Legality
 pub mod Sending
 pub mod Courses
 pub mod Handling

@@ -10,7 +10,7 @@ use Rattle.oi_history.specs.Locks.{is_joint}
 use Rattle.oi_history.specs.Phases.{generation_after}
 use Rattle.oi_history.specs.Queues.{queue_step, solicited_step}
 use Rattle.oi_history.specs.Recovering.{tasks_step}
-use Rattle.oi_history.specs.Snapshots.{broken_after, numbering_after, params_after, stat_after}
+use Rattle.oi_history.specs.ConnectionWords.{broken_after, numbering_after, params_after, stat_after}
 use Rattle.oi_history.specs.Tags.{allocated_after, free_after, fresh_tags}
 use Rattle.oi_history.specs.Tasks.{due_in, is_done, is_live_on}
 use Rattle.oi_history.specs.declared.allocated.Allocated.{Allocated}

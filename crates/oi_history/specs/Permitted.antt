@@ -3,7 +3,7 @@ use Rattle.std.specs.Prelude.{◌≡◌, ◌⊎◌, ◌≤◌, ◌<◌, ◌+◌,
 use Rattle.oi_base.specs.Limits.{most_management_tags}
 use Rattle.oi_base.specs.TagLayout.{reserved_tag}
 use Rattle.oi_history.specs.Handling.{is_live}
-use Rattle.oi_history.specs.Legality.{IsAbove}
+use Rattle.oi_history.specs.Histories.{IsAbove}
 use Rattle.oi_history.specs.Losses.{is_cause}
 use Rattle.oi_history.specs.Meanings.{Meanings, meanings}
 use Rattle.oi_history.specs.Owing.{owed_in, push_of, sendable}

@@ -1,7 +1,7 @@
 -- The phase of a session, and the generation of its connection.
 use Rattle.std.specs.Prelude.{ℕ, Bool, true, false, ◌==◌}
 use Rattle.oi_history.specs.declared.event.Event.{Event}
-use Rattle.oi_history.specs.declared.event.Event.TheVariants.{Login, Terminate}
+use Rattle.oi_history.specs.declared.event.Event.TheVariants.{Login}
 use Rattle.oi_history.specs.declared.phase.End.{End}
 use Rattle.oi_history.specs.declared.phase.Phase.{Phase}
 use Rattle.oi_history.specs.declared.phase.Phase.TheVariants.{LoggedIn, Ended}
@@ -10,11 +10,6 @@ use Rattle.oi_history.specs.declared.phase.Phase.TheVariants.{LoggedIn, Ended}
 abbrev pub ended_by : End → Phase → Phase
 ended_by cause (Ended first) = Ended first
 ended_by cause p = Ended cause
-
-abbrev pub phase_after : Event → Phase → Phase
-phase_after (Login generation params cmdsn max exp_stat) p = LoggedIn generation
-phase_after (Terminate cause) p = ended_by cause p
-phase_after e p = p
 
 abbrev pub generation_after : Event → ℕ → ℕ
 generation_after (Login generation params cmdsn max exp_stat) g = generation

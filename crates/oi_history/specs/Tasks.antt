@@ -1,7 +1,6 @@
 -- One submission: what an event makes of it, by the recovery table.
-use Rattle.std.specs.Prelude.{ℕ, Bool, true, false, not, ◌==◌, ◌&&◌, ◌+◌, ◌++◌, List, [], ◌∷◌, Option, length, slice_get, if◌then◌else◌, suc, zero}
-use Rattle.std.specs.Option.{option_and_then, option_map_or}
-use Rattle.std.specs.List.{position}
+use Rattle.std.specs.Prelude.{ℕ, Bool, true, false, not, ◌==◌, ◌&&◌, ◌+◌, ◌++◌, List, [], ◌∷◌, Option, slice_get, if◌then◌else◌, suc, zero}
+use Rattle.std.specs.Option.{option_and_then}
 use Rattle.oi_base.specs.Serials.{successor}
 use Rattle.oi_base.specs.declared.tag.Tag.{Tag}
 use Rattle.oi_history.specs.Tags.{holder}
@@ -15,15 +14,10 @@ use Rattle.oi_history.specs.declared.reply.ReplyData.{ReplyData}
 use Rattle.oi_history.specs.declared.task.Task.{Task}
 use Rattle.oi_pdu.specs.declared.header.DataIn.{DataIn}
 use Rattle.oi_pdu.specs.declared.header.ScsiResponse.{ScsiResponse}
-use Rattle.oi_recovery.specs.Recovery.{recovery_table}
-use Rattle.oi_recovery.specs.declared.hit.Aim.TheVariants.{Free}
-use Rattle.oi_recovery.specs.declared.hit.Hit.{Hit}
-use Rattle.oi_recovery.specs.declared.hit.Hit.TheVariants.{Reply, Ended}
 use Rattle.oi_recovery.specs.declared.hit.Residual.{Residual}
 use Rattle.oi_recovery.specs.declared.hit.Residual.TheVariants.{Exact, Under, Over}
 use Rattle.oi_recovery.specs.declared.stand.Next.{Next}
 use Rattle.oi_recovery.specs.declared.stand.Next.TheVariants.{Stay, Wait, Answer, Host as Fails}
-use Rattle.oi_recovery.specs.declared.stand.Stand.TheVariants.{Waiting as StandsWaiting, Live as StandsLive}
 use Rattle.oi_scsi.specs.Sense.{sense_in}
 
 abbrev pub is_waiting : Fate → Bool
@@ -75,37 +69,6 @@ settled at r t (Wait tries) = record t { fate = Waiting tries; got = []; pieces 
 settled at r t Answer = record t { fate = Done (Answered r.status r.residual r.sense t.got) at; got = []; pieces = 0 }
 settled at r t (Fails code) = record t { fate = Done (Host code) at; got = []; pieces = 0 }
 
-abbrev pub reply_hit : ReplyData → Task → Hit
-reply_hit r t = Reply r.response r.status r.residual t.command.length (length t.got) t.command.reads Free
-
--- a reply to the present try
-abbrev pub replied : ℕ → ℕ → ReplyData → Task → Task
-replied allowed at r t = settled at r t (recovery_table (StandsLive (tries_of t.fate)) (reply_hit r t) allowed)
-
--- a Data-In for a tag: where the submission is live on it, its data count, and with status it is a reply
-abbrev pub data_step : ℕ → ℕ → DataIn → List ℕ → Task → Task
-data_step allowed at h payload t =
-    if is_live_on h.tag.0 t.fate
-    then (if h.ends then replied allowed at (data_reply h) (with_piece payload t) else with_piece payload t)
-    else t
-
--- a SCSI Response for a tag
-abbrev pub response_step : ℕ → ℕ → ScsiResponse → List ℕ → Task → Task
-response_step allowed at h payload t = if is_live_on h.tag.0 t.fate then replied allowed at (scsi_reply h payload) t else t
-
--- the end of the session, by the recovery table
-abbrev pub cut_by : ℕ → Task → Next → Task
-cut_by at t (Fails code) = record t { fate = Done (Host code) at; got = []; pieces = 0 }
-cut_by at t n = t
-
-abbrev pub cut_task : ℕ → ℕ → Task → Fate → Task
-cut_task allowed at t (Waiting tries) = cut_by at t (recovery_table (StandsWaiting tries) Ended allowed)
-cut_task allowed at t (Live generation tag tries) = cut_by at t (recovery_table (StandsLive tries) Ended allowed)
-cut_task allowed at t (Done outcome n) = t
-
-abbrev pub cut_off : ℕ → ℕ → Task → Task
-cut_off allowed at t = cut_task allowed at t t.fate
-
 -- its outcome is handed out
 abbrev pub told_task : Task → Task
 told_task t = record t { told = is_done t.fate }
@@ -119,13 +82,6 @@ abbrev pub changed : ℕ → (Task → Task) → List Task → List Task
 changed id f [] = []
 changed zero f (t ∷ ts) = f t ∷ ts
 changed (suc id) f (t ∷ ts) = t ∷ changed id f ts
-
-abbrev pub changed_held : ℕ → List Allocated → (Task → Task) → List Task → List Task
-changed_held tag busy f tasks = option_map_or (λ id. changed id f tasks) (holder tag busy) tasks
-
--- the least submission that waits
-abbrev pub waiting_in : List Task → Option ℕ
-waiting_in tasks = position (λ t. is_waiting t.fate) tasks
 
 -- done and not handed out
 abbrev pub is_due : Task → Bool

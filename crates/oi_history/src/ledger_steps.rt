@@ -8,7 +8,7 @@ ghost use Rattle.oi_history.specs.Locks.{is_joint, is_task_response};
 ghost use Rattle.oi_history.specs.Meanings.{allocated_step, told_step};
 ghost use Rattle.oi_history.specs.Phases.{generation_after};
 ghost use Rattle.oi_history.specs.Queues.{queue_step, solicited_step};
-ghost use Rattle.oi_history.specs.Snapshots.{broken_after, numbering_after, params_after, stat_after, stat_told, window_told};
+ghost use Rattle.oi_history.specs.ConnectionWords.{broken_after, numbering_after, params_after, stat_after, stat_told, window_told};
 ghost use Rattle.oi_history.specs.Submitted.{taken_by};
 ghost use Rattle.oi_history.specs.Tags.{free_after, fresh_tags};
 ghost use Rattle.oi_history.specs.Tasks.{is_done};

@@ -1,4 +1,4 @@
-//! The history of a session: its events, the definitions over a list of them, and the plain state that follows them.
+//! The history of a session: its events, the definitions over a list of them, and the ledger that follows them.
 #![tactic(auto)]
 
 mod acceptance;
@@ -19,7 +19,6 @@ mod owing;
 mod phase;
 mod questions;
 mod queueing;
-mod receiving;
 mod recovering;
 mod reply;
 mod requests;
@@ -27,7 +26,6 @@ mod room;
 mod rule;
 mod rules;
 mod sending;
-mod state;
 mod striking;
 mod submissions;
 mod tables;
@@ -49,6 +47,5 @@ pub use owing::Owed;
 pub use phase::{End, Handler, LostCause, Phase};
 pub use reply::ReplyData;
 pub use rule::Rule;
-pub use state::State;
 pub use task::{Received, Task};
 pub use trace::{Fates, TraceFault, check_trace};

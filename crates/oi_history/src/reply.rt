@@ -1,5 +1,5 @@
 ghost use Rattle.std.specs.Prelude.{◌≡◌, ◌<◌, ◌&&◌, not, IfOk, OnOk, OnErr, []};
-ghost use Rattle.oi_history.specs.Tasks.{data_reply, data_step, is_live_on, is_waiting, is_done, issued, replied, residual_of, response_step, scsi_reply, settled, tries_of, with_piece, cut_off, cut_by};
+ghost use Rattle.oi_history.specs.Tasks.{data_reply, is_live_on, is_waiting, is_done, issued, residual_of, scsi_reply, settled, tries_of, with_piece};
 
 use crate::fate::{Fate, Outcome};
 use crate::task::{Received, Task};
@@ -136,23 +136,6 @@ pub fn start_again(task: &mut Task, alloc: Global, fate: Fate)
     task.pieces = 0;
 }
 
-fn reply_to(task: &mut Task, alloc: Global, allowed: u8, at: u64, reply: ReplyData)
-    ensures { task.new ≡ replied allowed at reply task.old }
-{
-    let hit = Hit::Reply {
-        response: reply.response,
-        status: reply.status,
-        residual: reply.residual,
-        length: task.command.length,
-        placed: task.got.count(),
-        reads: task.command.reads,
-        aim: Aim::Free,
-    };
-    let tries = tries_of(&task.fate);
-    let next = after(Stand::Live { tries }, hit, allowed);
-    settle(task, alloc, at, reply, next);
-}
-
 pub fn take_piece(task: &mut Task, payload: &[u8]) -> Result<(), NoMemory>
     ensures ok { OnOk result (task.new ≡ with_piece payload.now task.old) }
     ensures err { OnErr result (task.new ≡ task.old) }
@@ -160,74 +143,4 @@ pub fn take_piece(task: &mut Task, payload: &[u8]) -> Result<(), NoMemory>
     task.got.append(payload)?;
     task.pieces = task.pieces.wrapping_add(1);
     Ok(())
-}
-
-/// A Data-In for the tag of a submission. Answers whether the submission left the tag.
-pub fn data_to(
-    task: &mut Task,
-    alloc: Global,
-    allowed: u8,
-    at: u64,
-    h: DataIn,
-    payload: &[u8],
-) -> Result<bool, NoMemory>
-    ensures ok { OnOk result (task.new ≡ data_step allowed at h payload.now task.old) }
-    ensures ended { IfOk result (λ over. over ≡ (is_live_on h.tag.0 task.old.fate && not (is_live_on h.tag.0 task.new.fate))) }
-    ensures err { OnErr result (task.new ≡ task.old) }
-{
-    if !is_live_on(&task.fate, h.tag) {
-        return Ok(false);
-    }
-    take_piece(task, payload)?;
-    if h.ends {
-        reply_to(task, alloc, allowed, at, data_reply(alloc, h));
-        return Ok(!is_live_on(&task.fate, h.tag));
-    }
-    Ok(false)
-}
-
-/// A SCSI Response for the tag of a submission. Answers whether the submission left the tag.
-pub fn response_to(
-    task: &mut Task,
-    alloc: Global,
-    allowed: u8,
-    at: u64,
-    h: ScsiResponse,
-    payload: &[u8],
-) -> Result<bool, NoMemory>
-    ensures ok { OnOk result (task.new ≡ response_step allowed at h payload.now task.old) }
-    ensures ended { IfOk result (λ over. over ≡ (is_live_on h.tag.0 task.old.fate && not (is_live_on h.tag.0 task.new.fate))) }
-    ensures err { OnErr result (task.new ≡ task.old) }
-{
-    if !is_live_on(&task.fate, h.tag) {
-        return Ok(false);
-    }
-    let reply = scsi_reply(alloc, h, payload)?;
-    reply_to(task, alloc, allowed, at, reply);
-    Ok(!is_live_on(&task.fate, h.tag))
-}
-
-// What the recovery table says of a submission that is not done.
-fn cut_by(task: &mut Task, alloc: Global, at: u64, next: Next)
-    ensures { task.new ≡ cut_by at task.old next }
-{
-    match next {
-        Next::Host(code) => {
-            let outcome = Outcome::Host(code);
-            start_again(task, alloc, Fate::Done { outcome, at });
-        }
-        _ => {}
-    }
-}
-
-/// The session ends.
-pub fn cut_off(task: &mut Task, alloc: Global, allowed: u8, at: u64)
-    ensures { task.new ≡ cut_off allowed at task.old }
-{
-    let stand = match &task.fate {
-        Fate::Waiting { tries } => Stand::Waiting { tries: *tries },
-        Fate::Live { tries, .. } => Stand::Live { tries: *tries },
-        Fate::Done { .. } => return,
-    };
-    cut_by(task, alloc, at, after(stand, Hit::Ended, allowed));
 }

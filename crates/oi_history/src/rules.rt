@@ -3,7 +3,7 @@ ghost use Rattle.std.specs.List.{position};
 ghost use Rattle.std.specs.Option.{option_copied};
 ghost use Rattle.oi_base.specs.declared.tag.Tag.{Tag};
 ghost use Rattle.oi_history.specs.Judging.{are_over, first_broken, is_over, last_number};
-ghost use Rattle.oi_history.specs.Legality.{IsAbove};
+ghost use Rattle.oi_history.specs.Histories.{IsAbove};
 ghost use Rattle.oi_history.specs.Losses.{is_broken_by, is_timed_out};
 ghost use Rattle.oi_history.specs.Owing.{is_send, managed_next, push_of};
 ghost use Rattle.oi_history.specs.Queues.{drawable};

@@ -1,14 +1,13 @@
 ghost use Rattle.std.specs.Prelude.{◌≡◌, ◌++◌, ◌<◌, ◌≤◌, ◌+◌, IfOk, OnOk, OnErr, length, map, filter, not, ◌==◌, count_by, vec_len, Some, [], ◌∷◌, slice_get, if◌then◌else◌};
 ghost use Rattle.std.specs.Vec.{vec_capacity};
 ghost use Rattle.oi_history.specs.Indices.{AreSettledBut};
-ghost use Rattle.oi_history.specs.Snapshots.{ended_by_step};
 ghost use Rattle.oi_history.specs.Tags.{fresh_tags};
 ghost use Rattle.oi_history.specs.declared.task.Task.{Task};
-ghost use Rattle.oi_history.specs.Tasks.{changed, cut_off, data_step, due_in, due_of, is_done, is_due, issued, response_step, told_task, tries_of, waiting_in};
+ghost use Rattle.oi_history.specs.Tasks.{due_in, due_of, is_done, is_due, told_task};
 
 use crate::allocated::Allocated;
 use crate::fate::{Delivered, Fate};
-use crate::reply::{cut_off, data_to, is_done, is_waiting, issue, response_to};
+use crate::reply::is_done;
 use crate::task::Task;
 use oi_base::{NoMemory, Series, Tag};
 use oi_pdu::{DataIn, ScsiResponse};
@@ -28,26 +27,6 @@ pub fn fresh_tags(alloc: Global, age: u8, count: u16) -> Result<VecDeque<Tag>, N
     Ok(tags)
 }
 
-/// The least submission that waits.
-pub fn first_waiting(tasks: &[Task]) -> Option<usize>
-    ensures { result ≡ waiting_in tasks.now }
-{
-    tasks.iter().position(|t| is_waiting(&t.fate))
-}
-
-/// How many submissions are not done.
-pub fn pending(tasks: &[Task]) -> usize
-    ensures { result ≡ count_by (λ t. not (is_done t.fate)) tasks.now }
-{
-    let mut count = 0;
-    for t in tasks {
-        if !is_done(&t.fate) {
-            count += 1;
-        }
-    }
-    count
-}
-
 /// The tag is in use no more.
 pub fn release(busy: &mut Vec<Allocated>, tag: Tag)
     ensures items { busy.new.items ≡ filter (λ a. not (a.tag.0 == tag.0)) busy.old.items }
@@ -55,74 +34,6 @@ pub fn release(busy: &mut Vec<Allocated>, tag: Tag)
     ensures capacity { vec_capacity busy.new ≡ vec_capacity busy.old }
 {
     busy.retain(|a| a.tag.0 != tag.0);
-}
-
-/// The command of a submission goes out.
-pub fn issue_at(tasks: &mut Vec<Task>, id: usize, generation: u64, tag: Tag)
-    requires place { id < vec_len tasks.old }
-    requires tries { (t : Task) → slice_get tasks.old.items id ≡ Some t → tries_of t.fate < 255 }
-    ensures { tasks.new.items ≡ changed id (issued generation tag) tasks.old.items }
-{
-    let task = &mut tasks[id];
-    issue(task, generation, tag);
-}
-
-/// A Data-In for the submission with this id. Answers whether its tag ended.
-pub fn data_at(
-    tasks: &mut Vec<Task>,
-    id: usize,
-    alloc: Global,
-    allowed: u8,
-    at: u64,
-    h: DataIn,
-    payload: &[u8],
-) -> Result<bool, NoMemory>
-    requires { id < vec_len tasks.old }
-    ensures ok { OnOk result (tasks.new.items ≡ changed id (data_step allowed at h payload.now) tasks.old.items) }
-    ensures ended { IfOk result (λ over. (if over then h.tag ∷ [] else [])
-        ≡ ended_by_step h.tag (slice_get tasks.old.items id) (data_step allowed at h payload.now)) }
-    ensures err { OnErr result (tasks.new.items ≡ tasks.old.items) }
-{
-    let task = &mut tasks[id];
-    data_to(task, alloc, allowed, at, h, payload)
-}
-
-/// A SCSI Response for the submission with this id. Answers whether its tag ended.
-pub fn response_at(
-    tasks: &mut Vec<Task>,
-    id: usize,
-    alloc: Global,
-    allowed: u8,
-    at: u64,
-    h: ScsiResponse,
-    payload: &[u8],
-) -> Result<bool, NoMemory>
-    requires { id < vec_len tasks.old }
-    ensures ok { OnOk result (tasks.new.items ≡ changed id (response_step allowed at h payload.now) tasks.old.items) }
-    ensures ended { IfOk result (λ over. (if over then h.tag ∷ [] else [])
-        ≡ ended_by_step h.tag (slice_get tasks.old.items id) (response_step allowed at h payload.now)) }
-    ensures err { OnErr result (tasks.new.items ≡ tasks.old.items) }
-{
-    let task = &mut tasks[id];
-    response_to(task, alloc, allowed, at, h, payload)
-}
-
-/// The session ends for all submissions.
-pub fn cut_all(tasks: &mut Vec<Task>, alloc: Global, allowed: u8, at: u64)
-    ensures { tasks.new.items ≡ map (cut_off allowed at) tasks.old.items }
-{
-    for task in tasks.iter_mut() {
-        cut_off(task, alloc, allowed, at);
-    }
-}
-
-/// All that are done are handed out.
-#[tactic(auto, using(crate::proofs::Delivering::all_within))]
-pub fn tell_all(tasks: &mut Vec<Task>)
-    ensures { tasks.new.items ≡ map told_task tasks.old.items }
-{
-    let count = tasks.len();
-    tell_within(tasks, 0, count);
 }
 
 /// All that are done are handed out, where a delivery changes none below `low`, nor any at or above `high`.
@@ -160,15 +71,7 @@ fn add_due(alloc: Global, id: u64, task: &Task, out: &mut Vec<Delivered>) -> Res
     }
 }
 
-/// Copies of the outcomes that are due, in ascending id.
-#[tactic(auto, using(crate::proofs::Delivering::all_within))]
-pub fn due(alloc: Global, tasks: &[Task]) -> Result<Vec<Delivered>, NoMemory>
-    ensures { IfOk result (λ v. v.items ≡ due_in tasks.now) }
-{
-    due_within(alloc, tasks, 0, tasks.len())
-}
-
-/// The same, where none is due below `low`, nor at or above `high`.
+/// Copies of the outcomes that are due, in ascending id, where none is due below `low`, nor at or above `high`.
 pub fn due_within(
     alloc: Global,
     tasks: &[Task],

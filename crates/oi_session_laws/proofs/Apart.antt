@@ -12,11 +12,10 @@ use Rattle.oi_history.specs.declared.config.SessionConfig.{SessionConfig}
 use Rattle.oi_history.specs.declared.event.Event.{Event}
 use Rattle.oi_history.specs.declared.event.Event.TheVariants.{Login, Issue, Reap, Lost}
 use Rattle.oi_history.specs.declared.event.Numbered.{Numbered}
-use Rattle.oi_laws.specs.Tags.{allocations, copies}
 use Rattle.oi_session_laws.proofs.Management.{are_given, once}
 use Rattle.oi_session_laws.proofs.TagCounts.{allocations-append, copies-append, counted_first, decide, other_bit, same_bit, without-other}
 use Rattle.oi_session_laws.proofs.Tags.{AreTags, are_tags}
-use Rattle.oi_session_laws.specs.Tags.{given_tags, management_tags}
+use Rattle.oi_session_laws.specs.Tags.{given_tags, management_tags, allocations, copies}
 
 -- no tag of a command is as great as those of other requests
 

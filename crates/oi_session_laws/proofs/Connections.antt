@@ -1,4 +1,5 @@
 -- Each connection by itself: what it sent stays, and the next one has a generation of its own.
+use Rattle.oi_session_laws.specs.Numbers.{first_after, first_number, sent_after, sent_numbers, successive}
 use Rattle.std.proofs.Common.{◌≡◌, ◌∙◌, ◌≤◌, ◌<◌, ℕ, Bool, true, false, List, [], ◌∷◌, ◌++◌, length, ap, sym, subst, refl, arith, nat_eq, Option, Some, None, if◌then◌else◌}
 use Rattle.oi_base.specs.declared.tag.Tag.{Tag}
 use Rattle.oi_history.specs.Meanings.{Meanings, meanings}
@@ -11,14 +12,12 @@ use Rattle.oi_history.specs.declared.event.Event.TheVariants.{Login, Issue, Push
 use Rattle.oi_history.specs.declared.event.Numbered.{Numbered}
 use Rattle.oi_history.specs.declared.phase.Phase.{Phase}
 use Rattle.oi_history.specs.declared.phase.Phase.TheVariants.{First, LoggedIn, Recovering, FailFast, Ended}
-use Rattle.oi_laws.specs.Numbers.{first_after, first_number, sent_after, sent_numbers, successive}
-use Rattle.oi_laws.specs.Tags.{copies}
 use Rattle.oi_session_laws.proofs.Generations.{IsLast, last_login}
 use Rattle.oi_session_laws.proofs.Management.{given_distinct, owed_one}
 use Rattle.oi_session_laws.proofs.Numbers.{are_successive}
 use Rattle.oi_session_laws.proofs.TagCounts.{decide, equal_from, other_test, same_test}
 use Rattle.oi_session_laws.specs.Connections.{first_from, first_on, given_on, numbers_on}
-use Rattle.oi_session_laws.specs.Tags.{given_after, given_tags}
+use Rattle.oi_session_laws.specs.Tags.{given_after, given_tags, copies}
 
 -- what is sent, is sent on the connection of the last login
 

@@ -1,4 +1,5 @@
 -- In a session that ended each submission is done.
+use Rattle.oi_session_laws.specs.Stays.{fate_at}
 use Rattle.std.proofs.Common.{◌≡◌, ℕ, ℤ, suc, zero, Bool, true, false, ◌&&◌, ◌||◌, ◌∙◌, List, [], ◌∷◌, map, ap, subst, sym, refl, Option, Some, if◌then◌else◌}
 use Rattle.oi_history.specs.Acceptance.{is_current}
 use Rattle.oi_history.specs.Courses.{given_up, is_at_once, is_overdue, phase_step}
@@ -17,10 +18,12 @@ use Rattle.oi_history.specs.declared.phase.End.{End}
 use Rattle.oi_history.specs.declared.phase.Phase.{Phase}
 use Rattle.oi_history.specs.declared.phase.Phase.TheVariants.{First, LoggedIn, Recovering, FailFast, Ended}
 use Rattle.oi_history.specs.declared.task.Task.{Task}
-use Rattle.oi_laws.proofs.Ends.{AreDone}
-use Rattle.oi_laws.specs.Stays.{fate_at}
 use Rattle.oi_recovery.specs.declared.hit.Hit.TheVariants.{Ended as ByEnd}
 use Rattle.oi_session_laws.specs.Ends.{has_end, is_end}
+
+abbrev pub AreDone : List Task → Type 0
+AreDone [] = Unit {0}
+AreDone (t ∷ ts) = (is_done t.fate ≡ true) × AreDone ts
 
 pub done-told : (ts : List Task) → AreDone ts → AreDone (map told_task ts)
 done-told [] p = tt

@@ -1,5 +1,6 @@
 -- A submission is handed out as often as it is told: at most once.
-use Rattle.std.proofs.Common.{◌≡◌, ◌<◌, ◌≤◌, ◌+◌, ◌∙◌, ◌&&◌, ◌||◌, ℕ, suc, zero, Bool, true, false, List, [], ◌∷◌, ◌++◌, length, map, ap, subst, sym, refl, arith}
+use Rattle.oi_session_laws.proofs.Told.{AreSound, done_at, due_all, more_of_none, times-append, told_at}
+use Rattle.std.proofs.Common.{◌≡◌, ◌<◌, ◌≤◌, ◌+◌, ◌∙◌, ◌&&◌, ◌||◌, ℕ, suc, zero, Bool, true, false, List, [], ◌∷◌, length, map, ap, subst, sym, refl, arith}
 use Rattle.oi_base.specs.Counts.{bit}
 use Rattle.oi_history.specs.Meanings.{Meanings, accepted_in, handed_in, handed_so_far, is_current_in, meanings}
 use Rattle.oi_history.specs.Permitted.{ArePermitted, IsNextCommand, StandsBehind}
@@ -10,24 +11,15 @@ use Rattle.oi_history.specs.declared.config.SessionConfig.{SessionConfig}
 use Rattle.oi_history.specs.declared.event.Event.{Event}
 use Rattle.oi_history.specs.declared.event.Event.TheVariants.{PduIn, Deliver}
 use Rattle.oi_history.specs.declared.event.Numbered.{Numbered}
-use Rattle.oi_history.specs.declared.fate.Delivered.{Delivered}
 use Rattle.oi_history.specs.declared.fate.Fate.{Fate}
 use Rattle.oi_history.specs.declared.fate.Fate.TheVariants.{Waiting, Live, Done}
 use Rattle.oi_history.specs.declared.fate.Outcome.{Outcome}
 use Rattle.oi_history.specs.declared.task.Task.{Task}
-use Rattle.oi_laws.proofs.Ends.{AreDone}
-use Rattle.oi_laws.proofs.Handed.{done_at, due_all}
-use Rattle.oi_laws.proofs.Told.{AreSound, told_at}
-use Rattle.oi_laws.specs.Answers.{times}
 use Rattle.oi_session_laws.proofs.Counted.{ids_in_order}
-use Rattle.oi_session_laws.proofs.Ends.{ended_done, not_current, off, over_by_end}
+use Rattle.oi_session_laws.proofs.Ends.{ended_done, not_current, off, over_by_end, AreDone}
 use Rattle.oi_session_laws.proofs.Moved.{AreMoved, AreNew, hands_out, lt_from_test, moved_after}
-use Rattle.oi_session_laws.specs.Answers.{hands_behind_end, is_handing, was_submitted}
+use Rattle.oi_session_laws.specs.Answers.{hands_behind_end, is_handing, was_submitted, times}
 use Rattle.oi_session_laws.specs.Ends.{has_end, is_end}
-
-times-append : (id : ℕ) (xs ys : List Delivered) → times id (xs ++ ys) ≡ times id xs + times id ys
-times-append id [] ys = omega arith
-times-append id (x ∷ xs) ys = let more = times-append id xs ys in omega (arith, more)
 
 -- one that was handed out is done
 
@@ -72,10 +64,6 @@ told_done : (id : ℕ) (ts : List Task) → told_at id (map told_task ts) ≡ do
 told_done id [] = refl
 told_done zero (t ∷ ts) = refl
 told_done (suc id) (t ∷ ts) = told_done id ts
-
--- none, and then some more
-more_of_none : (n m : ℕ) → m ≡ n → 0 + n ≡ m
-more_of_none n m same = omega (arith, same)
 
 handed_told : (C : SessionConfig) (at : ℕ) (m : Meanings) (accepted : Bool) (e : Event) (id : ℕ) → IsNextCommand C m e → AreSound m.tasks
     → times id (handed_in e m) + told_at id m.tasks ≡ told_at id (tasks_step C at accepted m.phase m.handler m.busy e m.tasks)

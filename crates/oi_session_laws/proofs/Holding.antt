@@ -1,4 +1,6 @@
 -- A submission that is live has its tag, on the connection of the last login.
+use Rattle.oi_session_laws.specs.Stays.{fate_at}
+use Rattle.oi_session_laws.specs.Tags.{allocations, copies}
 use Rattle.std.proofs.Common.{◌≡◌, ◌∙◌, ◌+◌, ◌≤◌, ℕ, suc, zero, Bool, true, false, List, [], ◌∷◌, ap, sym, subst, refl, arith, nat_eq, inl, inr, Some, if◌then◌else◌}
 use Rattle.oi_base.specs.Counts.{bit}
 use Rattle.oi_base.specs.declared.tag.Tag.{Tag}
@@ -18,13 +20,10 @@ use Rattle.oi_history.specs.declared.fate.Fate.TheVariants.{Waiting, Live, Done}
 use Rattle.oi_history.specs.declared.phase.Phase.{Phase}
 use Rattle.oi_history.specs.declared.phase.Phase.TheVariants.{First, LoggedIn, Recovering, FailFast, Ended}
 use Rattle.oi_history.specs.declared.task.Task.{Task}
-use Rattle.oi_laws.proofs.Tags.{live_at}
-use Rattle.oi_laws.specs.Stays.{fate_at}
-use Rattle.oi_laws.specs.Tags.{allocations, copies}
 use Rattle.oi_session_laws.proofs.Connections.{logged_in}
 use Rattle.oi_session_laws.proofs.Generations.{IsLast, last_login}
 use Rattle.oi_session_laws.proofs.Moved.{AreMoved, AreNew, IsIssuedOn, IsLiveOn, moved_after}
-use Rattle.oi_session_laws.proofs.TagCounts.{equal_from, same_test}
+use Rattle.oi_session_laws.proofs.TagCounts.{equal_from, same_test, live_at}
 use Rattle.oi_session_laws.proofs.Tags.{AreOwned, IsOwned, are_tags, lives}
 
 -- the connection on which it is live

@@ -1,3 +1,5 @@
+pub mod TagCounts
+pub mod Told
 pub mod Moved
 pub mod Stays
 pub mod Tries
@@ -6,7 +8,6 @@ pub mod Generations
 pub mod Numbers
 pub mod Counted
 pub mod Handed
-pub mod TagCounts
 pub mod Tags
 pub mod Management
 pub mod Connections

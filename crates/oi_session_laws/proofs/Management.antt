@@ -18,9 +18,8 @@ use Rattle.oi_history.specs.declared.owed.Echo.{Echo}
 use Rattle.oi_history.specs.declared.owed.Queued.{Queued}
 use Rattle.oi_history.specs.declared.phase.Handler.{Handler}
 use Rattle.oi_history.specs.declared.phase.Handler.TheVariants.{Aborting, ResettingLun, ResettingTarget}
-use Rattle.oi_laws.specs.Tags.{copies}
 use Rattle.oi_session_laws.proofs.TagCounts.{copies-append, decide, other_bit, same_bit}
-use Rattle.oi_session_laws.specs.Tags.{given_after, given_tags, management_tags}
+use Rattle.oi_session_laws.specs.Tags.{given_after, given_tags, management_tags, copies}
 use Rattle.oi_window.specs.Numbering.{is_open, next_of}
 
 -- a request that is owed has the next management tag, or none

@@ -4,14 +4,13 @@ use Rattle.oi_base.specs.Serials.{less, predecessor, successor}
 use Rattle.oi_history.specs.Acceptance.{numbers_of}
 use Rattle.oi_history.specs.Meanings.{Meanings, accepted_in, meanings}
 use Rattle.oi_history.specs.Permitted.{ArePermitted, IsNumbered}
-use Rattle.oi_history.specs.Snapshots.{numbering_after, window_told}
+use Rattle.oi_history.specs.ConnectionWords.{numbering_after, window_told}
 use Rattle.oi_history.specs.declared.config.SessionConfig.{SessionConfig}
 use Rattle.oi_history.specs.declared.event.Event.{Event}
 use Rattle.oi_history.specs.declared.event.Event.TheVariants.{PduIn, Login, Issue}
 use Rattle.oi_history.specs.declared.event.Numbered.{Numbered}
 use Rattle.oi_history.specs.declared.numbers.Numbers.{Numbers}
-use Rattle.oi_laws.specs.Numbers.{IsInside, first_after, first_number, number_at, sent_after, sent_numbers, successive}
-use Rattle.oi_session_laws.specs.Numbers.{AreInside}
+use Rattle.oi_session_laws.specs.Numbers.{AreInside, IsInside, first_after, first_number, number_at, sent_after, sent_numbers, successive}
 use Rattle.oi_window.specs.Numbering.{max_of, next_of}
 use Rattle.oi_window.specs.declared.window.Window.{Window}
 

@@ -1,4 +1,5 @@
 -- No entry changes a submission that is done.
+use Rattle.oi_session_laws.specs.Stays.{fate_at}
 use Rattle.std.proofs.Common.{◌≡◌, ℕ, suc, zero, List, [], ◌∷◌, ◌++◌, ap, Some}
 use Rattle.oi_history.specs.Meanings.{accepted_in, meanings}
 use Rattle.oi_history.specs.Permitted.{ArePermitted}
@@ -9,7 +10,6 @@ use Rattle.oi_history.specs.declared.fate.Fate.{Fate}
 use Rattle.oi_history.specs.declared.fate.Fate.TheVariants.{Done}
 use Rattle.oi_history.specs.declared.fate.Outcome.{Outcome}
 use Rattle.oi_history.specs.declared.task.Task.{Task}
-use Rattle.oi_laws.specs.Stays.{fate_at}
 use Rattle.oi_session_laws.proofs.Moved.{AreMoved, moved_after}
 
 fate-moved : (e : Event) (a id : ℕ) (ts us : List Task) (outcome : Outcome) (at : ℕ) → AreMoved e a ts us → fate_at id ts ≡ Some (Done outcome at) → fate_at id us ≡ Some (Done outcome at)

@@ -1,11 +1,14 @@
 -- Counting tags.
-use Rattle.std.proofs.Common.{◌≡◌, ◌∙◌, ◌+◌, ◌≤◌, ◌==◌, ℕ, Bool, true, false, not, List, [], ◌∷◌, ◌++◌, filter, cond, drop, ap, sym, refl, arith, nat_eq, Some, slice_get}
+use Rattle.oi_history.specs.Tags.{fresh_tags}
+use Rattle.oi_history.specs.Tasks.{is_live_on}
+use Rattle.oi_history.specs.declared.task.Task.{Task}
+use Rattle.std.proofs.Common.{◌≡◌, ◌∙◌, ◌+◌, ◌≤◌, ◌==◌, ℕ, Bool, true, false, not, List, [], ◌∷◌, ◌++◌, filter, cond, drop, ap, sym, refl, arith, nat_eq, Some, slice_get, ◌*◌, ◌^◌, ◌<◌, suc, zero, map}
 use Rattle.std.proofs.lemmas.Bool.Decides.{nat_tests}
 use Rattle.oi_base.specs.Counts.{bit}
 use Rattle.oi_base.specs.declared.tag.Tag.{Tag}
 use Rattle.oi_history.specs.declared.allocated.Allocated.{Allocated}
-use Rattle.oi_laws.specs.Tags.{allocations, copies}
-use Rattle.oi_session_laws.specs.Tags.{holdings}
+use Rattle.oi_session_laws.specs.Tags.{holdings, allocations, copies}
+use Rattle.std.specs.List.{range_with_len}
 
 pub copies-append : (tag : ℕ) (xs ys : List Tag) → copies tag (xs ++ ys) ≡ copies tag xs + copies tag ys
 copies-append tag [] ys = omega arith
@@ -79,3 +82,34 @@ first_of (t ∷ tags) tag is = let same : t ≡ tag = cc in ap (λ (x : Tag). x 
 
 pub counted_first : (tags : List Tag) (tag : Tag) (n : ℕ) → slice_get tags 0 ≡ Some tag → copies n tags ≡ bit (tag.0 == n) + copies n (drop 1 tags)
 counted_first tags tag n is = ap (copies n) (first_of tags tag is)
+
+-- the tags of a connection differ
+
+fresh_below : (base a n tag : ℕ) → tag < base + a → copies tag (map (λ i. record { 0 = base + i }) (range_with_len a n)) ≡ 0
+fresh_below base a zero tag less = refl
+fresh_below base a (suc n) tag less =
+    let mine = other_bit (base + a) tag (λ is. omega (arith, less, is)) in
+    let rest = fresh_below base (a + 1) n tag (omega (arith, less)) in
+    omega (arith, mine, rest)
+
+fresh_first : (base a n tag : ℕ) (b : Bool) → nat_eq (base + a) tag ≡ b → copies tag (map (λ i. record { 0 = base + i }) (range_with_len (a + 1) n)) ≤ 1
+    → bit b + copies tag (map (λ i. record { 0 = base + i }) (range_with_len (a + 1) n)) ≤ 1
+fresh_first base a n tag true is rest =
+    let same = equal_from (base + a) tag is in
+    let none = fresh_below base (a + 1) n tag (omega (arith, same)) in
+    omega (arith, none)
+fresh_first base a n tag false is rest = omega (arith, rest)
+
+fresh_once : (base a n tag : ℕ) → copies tag (map (λ i. record { 0 = base + i }) (range_with_len a n)) ≤ 1
+fresh_once base a zero tag = omega arith
+fresh_once base a (suc n) tag = fresh_first base a n tag (nat_eq (base + a) tag) refl (fresh_once base (a + 1) n tag)
+
+pub fresh_tags_once : (age count tag : ℕ) → copies tag (fresh_tags age count) ≤ 1
+fresh_tags_once age count tag = fresh_once (age * 2 ^ 28) 0 count tag
+
+-- whether a submission is live on a tag
+
+abbrev pub live_at : ℕ → ℕ → List Task → Bool
+live_at tag id [] = false
+live_at tag zero (t ∷ ts) = is_live_on tag t.fate
+live_at tag (suc id) (t ∷ ts) = live_at tag id ts

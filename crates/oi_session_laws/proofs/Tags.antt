@@ -22,9 +22,6 @@ use Rattle.oi_history.specs.declared.phase.Handler.{Handler}
 use Rattle.oi_history.specs.declared.phase.Phase.{Phase}
 use Rattle.oi_history.specs.declared.phase.Phase.TheVariants.{First, LoggedIn, Recovering, FailFast, Ended}
 use Rattle.oi_history.specs.declared.task.Task.{Task}
-use Rattle.oi_laws.proofs.Ends.{AreDone}
-use Rattle.oi_laws.proofs.Tags.{fresh_tags_once, live_at}
-use Rattle.oi_laws.specs.Tags.{allocations, copies}
 use Rattle.oi_recovery.specs.Recovery.{recovery_table, waits_on}
 use Rattle.oi_recovery.specs.declared.hit.Aim.{Aim}
 use Rattle.oi_recovery.specs.declared.hit.Aim.TheVariants.{Free, Abort as ByAbort, Reset as ByReset}
@@ -33,11 +30,11 @@ use Rattle.oi_recovery.specs.declared.host_code.HostCode.TheVariants.{Disrupted,
 use Rattle.oi_recovery.specs.declared.stand.Next.{Next}
 use Rattle.oi_recovery.specs.declared.stand.Next.TheVariants.{Wait, Host}
 use Rattle.oi_recovery.specs.declared.stand.Stand.TheVariants.{Live as StandsLive}
-use Rattle.oi_session_laws.proofs.Ends.{end_all}
+use Rattle.oi_session_laws.proofs.Ends.{end_all, AreDone}
 use Rattle.oi_session_laws.proofs.Generations.{no_tags_over, none_over}
 use Rattle.oi_session_laws.proofs.Moved.{AreMoved, AreNew, moved_after, sendable_there, sendable_waits, takes}
-use Rattle.oi_session_laws.proofs.TagCounts.{allocations-append, copies-append, counted_first, decide, equal_from, holdings-append, holdings-fewer, other_bit, other_test, same_bit, same_test, without-other, without-same}
-use Rattle.oi_session_laws.specs.Tags.{holdings}
+use Rattle.oi_session_laws.proofs.TagCounts.{allocations-append, copies-append, counted_first, decide, equal_from, holdings-append, holdings-fewer, other_bit, other_test, same_bit, same_test, without-other, without-same, fresh_tags_once, live_at}
+use Rattle.oi_session_laws.specs.Tags.{holdings, allocations, copies}
 
 -- how many submissions are live on a tag
 abbrev pub lives : ℕ → List Task → ℕ

@@ -1,4 +1,5 @@
 -- Tries that are used, through each entry.
+use Rattle.oi_session_laws.specs.Stays.{fate_at}
 use Rattle.std.proofs.Common.{◌≡◌, ◌≤◌, ℕ, suc, zero, List, [], ◌∷◌, subst, Some}
 use Rattle.oi_history.specs.Meanings.{accepted_in, meanings}
 use Rattle.oi_history.specs.Permitted.{ArePermitted}
@@ -8,7 +9,6 @@ use Rattle.oi_history.specs.declared.event.Event.{Event}
 use Rattle.oi_history.specs.declared.event.Numbered.{Numbered}
 use Rattle.oi_history.specs.declared.fate.Fate.{Fate}
 use Rattle.oi_history.specs.declared.task.Task.{Task}
-use Rattle.oi_laws.specs.Stays.{fate_at}
 use Rattle.oi_session_laws.proofs.Moved.{AreMoved, AreNew, moved_after}
 
 tries-new : (a : ℕ) (us : List Task) → 1 ≤ a → AreNew a us → HaveTries a us

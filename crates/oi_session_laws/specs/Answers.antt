@@ -1,5 +1,6 @@
 -- How often a submission is handed out.
-use Rattle.std.specs.Prelude.{◌≡◌, ◌≤◌, ◌==◌, ◌&&◌, ◌||◌, ℕ, Bool, true, false, List, [], ◌∷◌, length, nat_lt}
+use Rattle.std.specs.Prelude.{◌≡◌, ◌≤◌, ◌==◌, ◌&&◌, ◌||◌, ◌+◌, ℕ, Bool, true, false, List, [], ◌∷◌, length, nat_lt}
+use Rattle.oi_base.specs.Counts.{bit}
 use Rattle.oi_history.specs.Meanings.{handed_so_far, meanings}
 use Rattle.oi_history.specs.Permitted.{ArePermitted}
 use Rattle.oi_history.specs.Phases.{is_ended}
@@ -8,8 +9,13 @@ use Rattle.oi_history.specs.declared.config.SessionConfig.{SessionConfig}
 use Rattle.oi_history.specs.declared.event.Event.{Event}
 use Rattle.oi_history.specs.declared.event.Event.TheVariants.{Submit, Deliver}
 use Rattle.oi_history.specs.declared.event.Numbered.{Numbered}
-use Rattle.oi_laws.specs.Answers.{times}
+use Rattle.oi_history.specs.declared.fate.Delivered.{Delivered}
 use Rattle.oi_session_laws.specs.Ends.{has_end}
+
+-- how often this id is among what was handed out
+abbrev pub times : ℕ → List Delivered → ℕ
+times id [] = 0
+times id (d ∷ ds) = bit (d.id == id) + times id ds
 
 -- a request came in under this id
 abbrev pub is_submit : ℕ → Event → Bool

@@ -1,4 +1,5 @@
 -- What each connection of a session sent, by its generation: the last one, and those before it.
+use Rattle.oi_session_laws.specs.Numbers.{sent_after, successive}
 use Rattle.std.specs.Prelude.{◌≡◌, ◌≤◌, ◌==◌, ℕ, List, [], ◌∷◌, length, if◌then◌else◌}
 use Rattle.oi_base.specs.declared.tag.Tag.{Tag}
 use Rattle.oi_history.specs.Owing.{is_on, sends_on}
@@ -7,9 +8,7 @@ use Rattle.oi_history.specs.declared.config.SessionConfig.{SessionConfig}
 use Rattle.oi_history.specs.declared.event.Event.{Event}
 use Rattle.oi_history.specs.declared.event.Event.TheVariants.{Login}
 use Rattle.oi_history.specs.declared.event.Numbered.{Numbered}
-use Rattle.oi_laws.specs.Numbers.{sent_after, successive}
-use Rattle.oi_laws.specs.Tags.{copies}
-use Rattle.oi_session_laws.specs.Tags.{given_after}
+use Rattle.oi_session_laws.specs.Tags.{given_after, copies}
 
 -- CmdSN that the login of the connection names
 abbrev pub first_from : ℕ → Event → ℕ → ℕ

@@ -1,5 +1,6 @@
 -- What is left at the end of a session, and how many tries are used.
-use Rattle.std.specs.Prelude.{◌≡◌, ◌≤◌, ◌<◌, ◌||◌, ℕ, Bool, true, false, List, [], ◌∷◌, Some}
+use Rattle.oi_session_laws.specs.Stays.{fate_at}
+use Rattle.std.specs.Prelude.{◌≡◌, ◌≤◌, ◌||◌, ℕ, Bool, true, false, List, [], ◌∷◌, Some}
 use Rattle.oi_history.specs.Meanings.{meanings}
 use Rattle.oi_history.specs.Permitted.{ArePermitted}
 use Rattle.oi_history.specs.Phases.{is_ended}
@@ -10,7 +11,6 @@ use Rattle.oi_history.specs.declared.event.Event.{Event}
 use Rattle.oi_history.specs.declared.event.Event.TheVariants.{Terminate}
 use Rattle.oi_history.specs.declared.event.Numbered.{Numbered}
 use Rattle.oi_history.specs.declared.fate.Fate.{Fate}
-use Rattle.oi_laws.specs.Stays.{fate_at}
 
 -- the session was ended
 abbrev pub is_end : Event → Bool

@@ -1,4 +1,5 @@
 -- Tags in use differ (RFC 7143, section 11.2.1.8).
+use Rattle.oi_session_laws.specs.Stays.{fate_at}
 use Rattle.std.specs.Prelude.{◌≡◌, ◌≤◌, ◌+◌, ◌==◌, ◌++◌, ℕ, true, List, [], ◌∷◌, Some, length, if◌then◌else◌, suc, zero}
 use Rattle.oi_base.specs.Counts.{bit}
 use Rattle.oi_base.specs.Limits.{most_management_tags}
@@ -15,8 +16,16 @@ use Rattle.oi_history.specs.declared.event.Event.{Event}
 use Rattle.oi_history.specs.declared.event.Event.TheVariants.{Login, Manage, Nop, Logout}
 use Rattle.oi_history.specs.declared.event.Numbered.{Numbered}
 use Rattle.oi_history.specs.declared.fate.Fate.TheVariants.{Live}
-use Rattle.oi_laws.specs.Stays.{fate_at}
-use Rattle.oi_laws.specs.Tags.{allocations, copies}
+
+-- how often a tag is allocated
+abbrev pub allocations : ℕ → List Allocated → ℕ
+allocations tag [] = 0
+allocations tag (a ∷ busy) = bit (a.tag.0 == tag) + allocations tag busy
+
+-- how often a tag stands in a list
+abbrev pub copies : ℕ → List Tag → ℕ
+copies tag [] = 0
+copies tag (t ∷ tags) = bit (t.0 == tag) + copies tag tags
 
 -- how many tags a submission has in use
 abbrev pub holdings : ℕ → List Allocated → ℕ

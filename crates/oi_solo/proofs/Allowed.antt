@@ -1,9 +1,10 @@
 -- What calls enter is permitted.
+use Rattle.oi_session_laws.specs.Stays.{fate_at}
 use Rattle.std.proofs.Common.{◌≡◌, ◌≤◌, ◌<◌, ◌+◌, ◌^◌, ◌∙◌, ℕ, suc, zero, Bool, true, false, Option, Some, None, List, [], ◌∷◌, length, slice_get, ap, sym, refl, arith}
 use Rattle.std.proofs.lemmas.Bool.{true≢false}
 use Rattle.oi_history.specs.Courses.{clock_step}
 use Rattle.oi_history.specs.Handling.{is_live}
-use Rattle.oi_history.specs.Legality.{IsAbove}
+use Rattle.oi_history.specs.Histories.{IsAbove}
 use Rattle.oi_history.specs.Losses.{is_cause}
 use Rattle.oi_history.specs.Meanings.{Meanings, meanings}
 use Rattle.oi_history.specs.Permitted.{ArePermitted, GoesOn, IsPermitted}
@@ -24,7 +25,6 @@ use Rattle.oi_base.specs.declared.login.LoginDone.{LoginDone}
 use Rattle.oi_pdu.specs.declared.codec.Pdu.{Pdu}
 use Rattle.oi_scsi.specs.Requests.{IsValid}
 use Rattle.oi_scsi.specs.declared.request.Request.{Request}
-use Rattle.oi_laws.specs.Stays.{fate_at}
 use Rattle.oi_session_laws.proofs.Ends.{all_done_after_end}
 use Rattle.oi_solo.specs.Calls.{CanAbort, HasFate, login_of, reading_of}
 use Rattle.oi_solo.specs.Cores.{IsNumbered, next_entry}

@@ -1,4 +1,5 @@
 -- Data that wait have their tag in use for their submission.
+use Rattle.oi_session_laws.specs.Tags.{allocations, copies}
 use Rattle.std.proofs.Common.{◌≡◌, ◌≢◌, ◌∙◌, ◌+◌, ◌≤◌, ◌==◌, ℕ, Bool, true, false, not, All, List, [], ◌∷◌, ◌++◌, filter, cond, drop, sym, subst, refl, arith, nat_eq, Option, Some, None, slice_get, if◌then◌else◌}
 use Rattle.std.proofs.lemmas.List.Elements.{All-cons, All-nil}
 use Rattle.std.specs.List.{flat_map}
@@ -19,7 +20,6 @@ use Rattle.oi_history.specs.declared.event.Numbered.{Numbered}
 use Rattle.oi_history.specs.declared.owed.Queued.{Queued}
 use Rattle.oi_history.specs.declared.owed.Solicited.{Solicited}
 use Rattle.oi_history.specs.declared.task.Task.{Task}
-use Rattle.oi_laws.specs.Tags.{allocations, copies}
 use Rattle.oi_session_laws.proofs.TagCounts.{counted_first, other_test, same_bit, same_test}
 use Rattle.oi_session_laws.proofs.Tags.{are_tags}
 

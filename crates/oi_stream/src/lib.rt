@@ -14,4 +14,3 @@ pub use laws::{
 };
 pub use pieces::frame_pieces;
 pub use splitter::Splitter;
-

@@ -13,4 +13,3 @@ pub use laws::lent_is_executed;
 pub use reply::{Lent, UnitReply};
 pub use unit::LogicalUnit;
 pub use units::Units;
-

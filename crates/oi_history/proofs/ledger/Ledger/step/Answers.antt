@@ -5,7 +5,7 @@ use Rattle.oi_history.specs.Ledgers.{LedgerView, freed_by, queued_in}
 use Rattle.oi_history.specs.Locks.{is_joint}
 use Rattle.oi_history.specs.Meanings.{Meanings, told_step}
 use Rattle.oi_history.specs.Phases.{generation_after}
-use Rattle.oi_history.specs.Snapshots.{broken_after, numbering_after, params_after, stat_after}
+use Rattle.oi_history.specs.ConnectionWords.{broken_after, numbering_after, params_after, stat_after}
 use Rattle.oi_history.specs.Submitted.{Waits}
 use Rattle.oi_history.specs.Tasks.{is_done}
 use Rattle.oi_history.specs.Trackers.{tracked}

@@ -1,6 +1,0 @@
-pub mod Told
-pub mod Handed
-pub mod Ends
-pub mod Numbers
-pub mod Stays
-pub mod Tags

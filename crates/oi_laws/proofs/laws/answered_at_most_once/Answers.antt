@@ -1,5 +1,0 @@
-use Rattle.oi_laws.proofs.Handed.{at_most_once}
-use Rattle.oi_laws.proofs.laws.answered_at_most_once.Goals as goal
-
-pub returns : goal.returns
-returns c = at_most_once

@@ -1,5 +1,0 @@
-use Rattle.oi_laws.proofs.Numbers.{are_successive}
-use Rattle.oi_laws.proofs.laws.command_numbers_successive.Goals as goal
-
-pub returns : goal.returns
-returns c = are_successive

@@ -1,5 +1,0 @@
-use Rattle.oi_laws.proofs.Stays.{stays_done}
-use Rattle.oi_laws.proofs.laws.done_is_final.Goals as goal
-
-pub returns : goal.returns
-returns c = stays_done
