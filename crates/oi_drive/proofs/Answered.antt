@@ -1,7 +1,7 @@
 -- A closed run has answered each of its submissions.
 use Rattle.std.proofs.Common.{◌≡◌, ◌∙◌, ◌++◌, ◌<◌, ◌+◌, ℕ, true, false, List, [], ◌∷◌, length, map, refl, ap, sym, subst, arith, nat_eq, nat_lt, Bool, Result, Ok, Err, OnOk, if◌then◌else◌}
 use Rattle.std.proofs.lemmas.Bool.Decides.{nat_tests}
-use Rattle.oi_drive.specs.Answered.{AreAnswered, AreOnce}
+use Rattle.oi_drive.specs.Answered.{AreAnswered, AreDecidedRuns, AreOnce}
 use Rattle.oi_drive.specs.Deeds.{Deed, due_of_session, hands_out, hands_out_by, nothing}
 use Rattle.oi_history.specs.Permitted.{ArePermitted}
 use Rattle.oi_history.specs.Phases.{is_ended}
@@ -10,6 +10,7 @@ use Rattle.oi_history.specs.declared.fate.Delivered.{Delivered}
 use Rattle.oi_history.specs.declared.fate.Fate.{Fate}
 use Rattle.oi_history.specs.declared.fate.Fate.TheVariants.{Waiting, Live, Done}
 use Rattle.oi_history.specs.declared.task.Task.{Task}
+use Rattle.oi_outcome_laws.proofs.Decided.{outcomes_decided}
 use Rattle.oi_session_laws.proofs.Handed.{at_most_once, exactly_once}
 use Rattle.oi_session_laws.proofs.Counted.{ids_in_order}
 use Rattle.oi_solo.specs.Sessions.{RunView, Session, entered_all, now_of, run_of}
@@ -47,6 +48,10 @@ ok_then (Err e) P Q f p = tt
 
 pub once_of : (s : Session) (runs : List RunView) → runs ≡ run_of s ∷ [] → ArePermitted s.config s.history → AreOnce runs
 once_of s runs is legal = subst (λ (rs : List RunView). AreOnce rs) (sym is) (λ id. at_most_once s.config s.history legal id, tt)
+
+pub decided_of : (s : Session) (runs : List RunView) → runs ≡ run_of s ∷ [] → ArePermitted s.config s.history → AreDecidedRuns runs
+decided_of s runs is legal =
+    subst (λ (rs : List RunView). AreDecidedRuns rs) (sym is) (record { history = s.history; is = refl; decided = outcomes_decided s.config s.history legal }, tt)
 
 less_test : (a b : ℕ) → a < b → nat_lt a b ≡ true
 less_test a b h = grind (arith, nat_tests)

@@ -1,7 +1,7 @@
 ghost use Rattle.std.specs.Vec.{vec_capacity};
 ghost use Rattle.std.specs.Prelude.{◌≡◌, ◌<◌, length, ◌++◌, ◌∷◌, [], ℕ, List, Some, IfOk, OnOk, true};
 ghost use Rattle.oi_base.specs.Counts.{Rose};
-ghost use Rattle.oi_drive.specs.Answered.{AreAnswered, AreOnce};
+ghost use Rattle.oi_drive.specs.Answered.{AreAnswered, AreDecidedRuns, AreOnce};
 ghost use Rattle.oi_history.specs.Tasks.{due_in};
 ghost use Rattle.oi_drive.specs.Endings.{AreEnded, AreLeft, Closes, ClosesBroken, ClosesPartly, HasCause, IsDrive, IsEndedBy, IsEndedRun, IsLeft, PutsOut, broken_status, cause_of, closed_by, closing_text, drive_config, first_world, status_of, stop_text, terminated};
 ghost use Rattle.oi_outside.specs.Streams.{IsCounted, IsFront, behind};
@@ -260,7 +260,7 @@ fn without_run(alloc: Global) -> Ended
 }
 
 // The one run of a replay.
-#[tactic(auto, using(crate::proofs::Answered::once_of, crate::proofs::Answered::answered_of))]
+#[tactic(auto, using(crate::proofs::Answered::once_of, crate::proofs::Answered::answered_of, crate::proofs::Answered::decided_of))]
 fn one_run(solo: Solo, mut room: Vec<Run>) -> Series<Run>
     requires empty { room.items ≡ [] }
     requires room { 0 < vec_capacity room }
@@ -268,6 +268,7 @@ fn one_run(solo: Solo, mut room: Vec<Run>) -> Series<Run>
     ensures run { result ≡ run_of solo ∷ [] }
     ensures legal { AreEnded result }
     ensures once { AreOnce result }
+    ensures decided { AreDecidedRuns result }
     ensures every { due_in (now_of solo).tasks ≡ [] → AreAnswered result }
 {
     let _ = solo.phase();
@@ -285,6 +286,7 @@ fn room_for_one(alloc: Global) -> Result<Vec<Run>, NoMemory>
 pub fn drive_main<S: Source, K: Sink>(alloc: Global, source: &mut S, sink: &mut K) -> Ended
     ensures legal { AreEnded result.runs }
     ensures once { AreOnce result.runs }
+    ensures decided { AreDecidedRuns result.runs }
     ensures every { (result.status ≡ 3 → ⊥) → AreAnswered result.runs }
     ensures one { (result.status ≡ 3 → ⊥) → length result.runs ≡ 1 }
     ensures exact { (bytes : List ℕ) → S.left source.old ≡ Some bytes → (Rose (S.faults source.old) (S.faults source.new) → ⊥) → (Rose (K.faults sink.old) (K.faults sink.new) → ⊥)

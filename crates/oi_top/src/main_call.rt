@@ -1,6 +1,6 @@
 ghost use Rattle.std.specs.Prelude.{◌≡◌, length, ℕ, List, [], Some, OnOk, codes, true, false};
 ghost use Rattle.oi_base.specs.Counts.{Rose};
-ghost use Rattle.oi_drive.specs.Answered.{AreAnswered, AreOnce};
+ghost use Rattle.oi_drive.specs.Answered.{AreAnswered, AreDecidedRuns, AreOnce};
 ghost use Rattle.oi_drive.specs.Endings.{AreEnded, AreLeft, HasCause, IsDrive};
 ghost use Rattle.oi_outside.specs.Streams.{IsCounted, IsFront, behind};
 ghost use Rattle.oi_tool.specs.Asking.{AreRefused};
@@ -61,6 +61,7 @@ pub fn iscsi_main<S: Source, K: Sink, R: RecordStore>(
 ) -> Ended
     ensures legal { AreEnded result.runs }
     ensures once { AreOnce result.runs }
+    ensures decided { AreDecidedRuns result.runs }
     ensures every { (result.status ≡ 3 → ⊥) → AreAnswered result.runs }
     ensures one { is_drive words.now ≡ true → (result.status ≡ 3 → ⊥) → length result.runs ≡ 1 }
     ensures exact { is_drive words.now ≡ true → (bytes : List ℕ) → S.left source.old ≡ Some bytes → (Rose (S.faults source.old) (S.faults source.new) → ⊥)
