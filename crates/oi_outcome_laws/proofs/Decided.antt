@@ -19,6 +19,7 @@ use Rattle.oi_history.specs.declared.fate.Outcome.{Outcome}
 use Rattle.oi_history.specs.declared.fate.Outcome.TheVariants.{Host as ByHost}
 use Rattle.oi_history.specs.declared.phase.Phase.{Phase}
 use Rattle.oi_history.specs.declared.task.Task.{Task}
+use Rattle.oi_outcome_laws.proofs.Data.{has_data}
 use Rattle.oi_outcome_laws.proofs.Turned.{Row, found, turned_after}
 use Rattle.oi_outcome_laws.specs.Outcomes.{AreDecided, Decides, IsByTable, IsDecided, is_command_of}
 use Rattle.oi_recovery.specs.declared.host_code.HostCode.TheVariants.{FailFast}
@@ -28,10 +29,12 @@ use Rattle.oi_session_laws.specs.Stays.{fate_at}
 
 -- one entry
 
-by_table : (C : SessionConfig) (m : Meanings) (e : Event) (id : ℕ) (outcome : Outcome) → (t : Task) × (slice_get m.tasks id ≡ Some t) × Row C m e id t outcome → IsByTable C m e id outcome
-by_table C m e id outcome p = record {
+by_table : (C : SessionConfig) (H : List Numbered) (e : Event) (id : ℕ) (outcome : Outcome) → ArePermitted C H → (t : Task) × (slice_get (meanings C H).tasks id ≡ Some t) × Row C (meanings C H) e id t outcome
+    → IsByTable C H e id outcome
+by_table C H e id outcome legal p = record {
   task = p.0;
   there = p.1;
+  got = λ live. (has_data C H legal id p.0 p.1).live live;
   stand = p.2.stand;
   stands = p.2.stands;
   hit = p.2.hit;
@@ -59,23 +62,26 @@ at_once_by p at c false is outcome n done = absurd cc
 at_once : (p : Phase) (at : ℕ) (c : Command) (outcome : Outcome) (n : ℕ) → (submitted_in p at c).fate ≡ Done outcome n → (is_fail_fast p ≡ true) × (outcome ≡ ByHost FailFast)
 at_once p at c outcome n done = at_once_by p at c (is_fail_fast p) refl outcome n done
 
-came_in : (C : SessionConfig) (m : Meanings) (at k : ℕ) (request : _) (id : ℕ) (outcome : Outcome) (n : ℕ)
-    → (fate_at id m.tasks ≡ Some (Done outcome n)) ⊎ ((id ≡ length m.tasks) × ((submitted_in m.phase at (command_of request)).fate ≡ Done outcome n))
-    → (fate_at id m.tasks ≡ Some (Done outcome n)) ⊎ Decides C m (Submit k request) id outcome
-came_in C m at k request id outcome n (inl was) = inl was
-came_in C m at k request id outcome n (inr p) = let fails = at_once m.phase at (command_of request) outcome n p.1 in inr (p.0, fails.0, fails.1)
+came_in : (C : SessionConfig) (H : List Numbered) (at k : ℕ) (request : _) (id : ℕ) (outcome : Outcome) (n : ℕ)
+    → (fate_at id (meanings C H).tasks ≡ Some (Done outcome n)) ⊎ ((id ≡ length (meanings C H).tasks) × ((submitted_in (meanings C H).phase at (command_of request)).fate ≡ Done outcome n))
+    → (fate_at id (meanings C H).tasks ≡ Some (Done outcome n)) ⊎ Decides C H (Submit k request) id outcome
+came_in C H at k request id outcome n (inl was) = inl was
+came_in C H at k request id outcome n (inr p) = let fails = at_once (meanings C H).phase at (command_of request) outcome n p.1 in inr (p.0, fails.0, fails.1)
 
-turned_in : (C : SessionConfig) (m : Meanings) (e : Event) (id : ℕ) (outcome : Outcome) (n : ℕ)
-    → (fate_at id m.tasks ≡ Some (Done outcome n)) ⊎ ((t : Task) × (slice_get m.tasks id ≡ Some t) × Row C m e id t outcome)
-    → (fate_at id m.tasks ≡ Some (Done outcome n)) ⊎ IsByTable C m e id outcome
-turned_in C m e id outcome n (inl was) = inl was
-turned_in C m e id outcome n (inr p) = inr (by_table C m e id outcome p)
+turned_in : (C : SessionConfig) (H : List Numbered) (e : Event) (id : ℕ) (outcome : Outcome) (n : ℕ) → ArePermitted C H
+    → (fate_at id (meanings C H).tasks ≡ Some (Done outcome n)) ⊎ ((t : Task) × (slice_get (meanings C H).tasks id ≡ Some t) × Row C (meanings C H) e id t outcome)
+    → (fate_at id (meanings C H).tasks ≡ Some (Done outcome n)) ⊎ IsByTable C H e id outcome
+turned_in C H e id outcome n legal (inl was) = inl was
+turned_in C H e id outcome n legal (inr p) = inr (by_table C H e id outcome legal p)
 
 -- behind an entry a submission is done as before, or the entry decides it
-step_decides : (C : SessionConfig) (at : ℕ) (m : Meanings) (e : Event) (id : ℕ) (outcome : Outcome) (n : ℕ)
-    → fate_at id (tasks_step C at (accepted_in e m) m.phase m.handler m.busy e m.tasks) ≡ Some (Done outcome n) → (fate_at id m.tasks ≡ Some (Done outcome n)) ⊎ Decides C m e id outcome
-step_decides C at m (Submit k request) id outcome n is = came_in C m at k request id outcome n (last_of id m.tasks (submitted_in m.phase at (command_of request)) (Done outcome n) is)
-step_decides C at m e id outcome n is = turned_in C m e id outcome n (found C m e 0 id id (omega arith) m.tasks _ (turned_after C at m e refl) outcome n is)
+step_decides : (C : SessionConfig) (H : List Numbered) (at : ℕ) (e : Event) (id : ℕ) (outcome : Outcome) (n : ℕ) → ArePermitted C H
+    → fate_at id (tasks_step C at (accepted_in e (meanings C H)) (meanings C H).phase (meanings C H).handler (meanings C H).busy e (meanings C H).tasks) ≡ Some (Done outcome n)
+    → (fate_at id (meanings C H).tasks ≡ Some (Done outcome n)) ⊎ Decides C H e id outcome
+step_decides C H at (Submit k request) id outcome n legal is =
+    came_in C H at k request id outcome n (last_of id (meanings C H).tasks (submitted_in (meanings C H).phase at (command_of request)) (Done outcome n) is)
+step_decides C H at e id outcome n legal is =
+    turned_in C H e id outcome n legal (found C (meanings C H) e 0 id id (omega arith) (meanings C H).tasks _ (turned_after C at (meanings C H) e refl) outcome n is)
 
 -- no command is sent of one that is done
 
@@ -119,10 +125,10 @@ longer C n H id outcome quiet d = record {
 
 pub decided_at : (C : SessionConfig) (H : List Numbered) → ArePermitted C H → (id : ℕ) (outcome : Outcome) (n : ℕ) → fate_at id (meanings C H).tasks ≡ Some (Done outcome n) → IsDecided C H id outcome
 decided_at C [] legal id outcome n is = absurd cc
-decided_at C (entry ∷ H) legal id outcome n is = either (decided_at C H legal.1 id outcome n) (step_decides C entry.number (meanings C H) entry.event id outcome n is)
+decided_at C (entry ∷ H) legal id outcome n is = either (decided_at C H legal.1 id outcome n) (step_decides C H entry.number entry.event id outcome n legal.1 is)
   where
     either : (fate_at id (meanings C H).tasks ≡ Some (Done outcome n) → IsDecided C H id outcome)
-        → (fate_at id (meanings C H).tasks ≡ Some (Done outcome n)) ⊎ Decides C (meanings C H) entry.event id outcome → IsDecided C (entry ∷ H) id outcome
+        → (fate_at id (meanings C H).tasks ≡ Some (Done outcome n)) ⊎ Decides C H entry.event id outcome → IsDecided C (entry ∷ H) id outcome
     either before (inl was) = longer C entry H id outcome (not_sent C (meanings C H) entry.event id outcome n legal.0.command was) (before was)
     either before (inr decides) = record { later = []; entry = entry; before = H; split = refl; decides = decides; last = tt }
 

@@ -1,8 +1,8 @@
 -- What decides the outcome of a submission.
-use Rattle.std.specs.Prelude.{◌≡◌, ◌==◌, ℕ, Bool, true, false, List, [], ◌∷◌, ◌++◌, Some, length, slice_get}
+use Rattle.std.specs.Prelude.{◌≡◌, ◌==◌, ◌&&◌, ℕ, Bool, true, false, List, [], ◌∷◌, ◌++◌, Option, Some, length, slice_get, if◌then◌else◌}
 use Rattle.oi_base.specs.declared.tag.Tag.{Tag}
 use Rattle.oi_history.specs.Courses.{is_at_once, is_fail_fast, is_overdue}
-use Rattle.oi_history.specs.Handling.{aim_of, sent_under}
+use Rattle.oi_history.specs.Handling.{aim_of, is_live, sent_under}
 use Rattle.oi_history.specs.Meanings.{Meanings, accepted_in, handed_so_far, meanings}
 use Rattle.oi_history.specs.Permitted.{ArePermitted}
 use Rattle.oi_history.specs.Tags.{holder}
@@ -31,6 +31,26 @@ use Rattle.oi_recovery.specs.declared.stand.Next.TheVariants.{Answer, Host}
 use Rattle.oi_recovery.specs.declared.stand.Stand.{Stand}
 use Rattle.oi_recovery.specs.declared.stand.Stand.TheVariants.{Waiting as StandsWaiting, Live as StandsLive}
 use Rattle.oi_scsi.specs.Sense.{sense_in}
+use Rattle.oi_session_laws.specs.Stays.{fate_at}
+
+-- a Data-In is for the submission with this id: it has the tag, and is live on it
+abbrev pub goes_to : ℕ → ℕ → Option ℕ → Option Fate → Bool
+goes_to tag id (Some k) (Some f) = k == id && is_live_on tag f
+goes_to tag id o p = false
+
+-- the data of its last try: none as its command is sent, and then each payload behind those before (RFC 7143, section 11.7)
+abbrev pub data_heard : Meanings → Header → List ℕ → ℕ → List ℕ → List ℕ
+data_heard m (DataIn h) payload id bytes = if goes_to h.tag.0 id (holder h.tag.0 m.busy) (fate_at id m.tasks) then bytes ++ payload else bytes
+data_heard m head payload id bytes = bytes
+
+abbrev pub data_step : Meanings → Event → ℕ → List ℕ → List ℕ
+data_step m (Issue k generation tag cmdsn) id bytes = if k == id then [] else bytes
+data_step m (PduIn generation pdu) id bytes = if accepted_in (PduIn generation pdu) m then data_heard m pdu.head pdu.payload id bytes else bytes
+data_step m e id bytes = bytes
+
+abbrev pub data_of : SessionConfig → ℕ → List Numbered → List ℕ
+data_of C id [] = []
+data_of C id (n ∷ H) = data_step (meanings C H) n.event id (data_of C id H)
 
 -- the row of the recovery table for a submission that is not done
 abbrev pub Stands : Fate → Stand → Type 0
@@ -86,20 +106,21 @@ Gives e t Answer outcome = IsAnswer e t outcome
 Gives e t (Host code) outcome = outcome ≡ ByHost code
 Gives e t next outcome = ⊥
 
--- an entry decides the submission with this id by the table
-pub record IsByTable (C : SessionConfig) (m : Meanings) (e : Event) (id : ℕ) (outcome : Outcome) : Type 0 where
+-- an entry decides the submission with this id by the table; while it is live, it has the data of its last try
+pub record IsByTable (C : SessionConfig) (H : List Numbered) (e : Event) (id : ℕ) (outcome : Outcome) : Type 0 where
   pub task : Task
-  pub there : slice_get m.tasks id ≡ Some task
+  pub there : slice_get (meanings C H).tasks id ≡ Some task
+  pub got : is_live task.fate ≡ true → task.got ≡ data_of C id H
   pub stand : Stand
   pub stands : Stands task.fate stand
   pub hit : Hit
-  pub befalls : Befalls C m e id task hit
+  pub befalls : Befalls C (meanings C H) e id task hit
   pub gives : Gives e task (recovery_table stand hit C.tries) outcome
 
 -- or it is one that comes in while the session fails fast
-abbrev pub Decides : SessionConfig → Meanings → Event → ℕ → Outcome → Type 0
-Decides C m (Submit k request) id outcome = (id ≡ length m.tasks) × (is_fail_fast m.phase ≡ true) × (outcome ≡ ByHost FailFast)
-Decides C m e id outcome = IsByTable C m e id outcome
+abbrev pub Decides : SessionConfig → List Numbered → Event → ℕ → Outcome → Type 0
+Decides C H (Submit k request) id outcome = (id ≡ length (meanings C H).tasks) × (is_fail_fast (meanings C H).phase ≡ true) × (outcome ≡ ByHost FailFast)
+Decides C H e id outcome = IsByTable C H e id outcome
 
 -- the command of the submission is sent
 abbrev pub is_command_of : ℕ → Event → Bool
@@ -116,7 +137,7 @@ pub record IsDecided (C : SessionConfig) (H : List Numbered) (id : ℕ) (outcome
   pub entry : Numbered
   pub before : List Numbered
   pub split : H ≡ later ++ entry ∷ before
-  pub decides : Decides C (meanings C before) entry.event id outcome
+  pub decides : Decides C before entry.event id outcome
   pub last : SendNone id later
 
 abbrev pub AreDecided : SessionConfig → List Numbered → List Delivered → Type 0
