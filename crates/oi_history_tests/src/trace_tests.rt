@@ -266,7 +266,8 @@ fn rules_at_the_end(rt: HostRuntime) -> Result<(), Fail> {
 }
 
 pub(crate) fn at(number: u64, event: Event) -> Numbered
-    ensures { result.now ≡ record { number = number; event = event.now } }
+    ensures number { result.number ≡ number }
+    ensures event { result.event ≡ event }
 {
     Numbered { number, event }
 }
