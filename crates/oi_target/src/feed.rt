@@ -3,6 +3,7 @@ ghost use Rattle.std.specs.List.{prefix_len};
 ghost use Rattle.oi_target.specs.Feeding.{Feeds, IsCutBy, cut_of, put_back, taken, taken_by, taken_ended, taken_open, wire};
 ghost use Rattle.oi_target.specs.Steps.{faulted_fed, faulted_standing, step_of};
 ghost use Rattle.oi_target.specs.Targets.{aside, is_other, link_of, placed, without};
+ghost use Rattle.oi_target_login.specs.Grown.{IsGrown};
 ghost use Rattle.oi_target_session.specs.declared.fed.Fed.TheVariants as feds;
 
 use crate::link::{Link, Standing};
@@ -97,20 +98,6 @@ fn faulted(outcome: Outcome, fault: bool) -> Outcome
     }
 }
 
-// Appends what was written. Nothing is copied where nothing stood before.
-fn append(out: &mut Vec<u8>, written: Vec<u8>) -> Result<(), NoMemory>
-    ensures ok { OnOk result (out.new.items ≡ out.old.items ++ written.items) }
-    ensures err { OnErr result (out.new.items ≡ out.old.items) }
-{
-    if out.is_empty() {
-        *out = written;
-        Ok(())
-    } else {
-        out.extend_from_slice(&written)?;
-        Ok(())
-    }
-}
-
 impl Target {
     // A connection, in whose place a closed one stands from now on; None where there is none of this number.
     fn set_aside(&mut self, connection: u32) -> Option<Link>
@@ -145,10 +132,10 @@ impl Target {
         piece: &[u8],
         out: &mut Vec<u8>,
     ) -> Result<Fed, NoMemory>
-        requires { out.old.items ≡ [] }
         ensures target { OnOk result (self.new ≡ (taken_open self.old number link.standing (cut_of link.splitter piece.now)).target) }
-        ensures out { OnOk result (out.new.items ≡ wire (taken_open self.old number link.standing (cut_of link.splitter piece.now)).sent) }
+        ensures out { OnOk result (out.new.items ≡ out.old.items ++ wire (taken_open self.old number link.standing (cut_of link.splitter piece.now)).sent) }
         ensures fed { IfOk result (λ fed. fed ≡ (taken_open self.old number link.standing (cut_of link.splitter piece.now)).fed) }
+        ensures kept { OnErr result (IsGrown out.old.items out.new.items) }
     {
         let Link {
             number: _,
@@ -191,10 +178,10 @@ impl Target {
         piece: &[u8],
         out: &mut Vec<u8>,
     ) -> Result<Fed, NoMemory>
-        requires { out.old.items ≡ [] }
         ensures target { OnOk result (self.new ≡ (taken_by self.old number link.splitter link.standing piece.now).target) }
-        ensures out { OnOk result (out.new.items ≡ wire (taken_by self.old number link.splitter link.standing piece.now).sent) }
+        ensures out { OnOk result (out.new.items ≡ out.old.items ++ wire (taken_by self.old number link.splitter link.standing piece.now).sent) }
         ensures fed { IfOk result (λ fed. fed ≡ (taken_by self.old number link.splitter link.standing piece.now).fed) }
+        ensures kept { OnErr result (IsGrown out.old.items out.new.items) }
     {
         match link.standing {
             Standing::Ended => Ok(self.take_ended(number, link, piece)),
@@ -211,10 +198,10 @@ impl Target {
         piece: &[u8],
         out: &mut Vec<u8>,
     ) -> Result<Fed, NoMemory>
-        requires { out.old.items ≡ [] }
         ensures target { OnOk result (self.new ≡ (taken self.old connection piece.now).target) }
-        ensures out { OnOk result (out.new.items ≡ wire (taken self.old connection piece.now).sent) }
+        ensures out { OnOk result (out.new.items ≡ out.old.items ++ wire (taken self.old connection piece.now).sent) }
         ensures fed { IfOk result (λ fed. fed ≡ (taken self.old connection piece.now).fed) }
+        ensures kept { OnErr result (IsGrown out.old.items out.new.items) }
     {
         let Some(link) = self.set_aside(connection) else {
             return Ok(Fed::Closed);
@@ -239,12 +226,9 @@ impl Target {
         if self.broken {
             return Err(NoMemory);
         }
-        let mut written = Vec::new(self.alloc);
-        let Ok(fed) = self.feed_into(connection, piece, &mut written) else {
-            self.broken = true;
-            return Err(NoMemory);
-        };
-        let Ok(()) = append(out, written) else {
+        let before = out.len();
+        let Ok(fed) = self.feed_into(connection, piece, out) else {
+            out.truncate(before);
             self.broken = true;
             return Err(NoMemory);
         };

@@ -1,7 +1,8 @@
-ghost use Rattle.std.specs.Prelude.{◌≡◌, ◌++◌, [], bytes_eq, map, IfOk, OnOk};
+ghost use Rattle.std.specs.Prelude.{◌≡◌, ◌++◌, [], bytes_eq, map, IfOk, OnErr, OnOk};
 ghost use Rattle.oi_target.specs.Feeding.{wire};
 ghost use Rattle.oi_target.specs.Steps.{Step, logged_in, logged_in_by, opening, served_as, stepped, steps, with_words};
 ghost use Rattle.oi_target.specs.Targets.{ended_by, ended_standing, limits_of, next_handle, nexus_of, reset_link, reset_links, reset_standing, session_of, with_links};
+ghost use Rattle.oi_target_login.specs.Grown.{IsGrown};
 ghost use Rattle.oi_target_session.specs.Arrivals.{received};
 
 use crate::link::{Held, Link, Serving, Standing};
@@ -131,6 +132,7 @@ impl Target {
         ensures standing { IfOk result (λ o. o.standing ≡ (stepped self.old (Standing.LoggingIn login) pdu.now).standing) }
         ensures fed { IfOk result (λ o. o.fed ≡ (stepped self.old (Standing.LoggingIn login) pdu.now).fed) }
         ensures out { OnOk result (out.new.items ≡ out.old.items ++ wire (stepped self.old (Standing.LoggingIn login) pdu.now).sent) }
+        ensures kept { OnErr result (IsGrown out.old.items out.new.items) }
     {
         let mut login = login;
         match login.serve(&self.rules, self.handle, &mut self.words, pdu, out)? {
@@ -155,6 +157,7 @@ impl Target {
         ensures standing { IfOk result (λ o. o.standing ≡ (stepped self.old (Standing.Serving serving) pdu).standing) }
         ensures fed { IfOk result (λ o. o.fed ≡ (stepped self.old (Standing.Serving serving) pdu).fed) }
         ensures out { OnOk result (out.new.items ≡ out.old.items ++ wire (stepped self.old (Standing.Serving serving) pdu).sent) }
+        ensures kept { OnErr result (IsGrown out.old.items out.new.items) }
     {
         let Serving { session, held } = serving;
         let mut session = session;
@@ -185,6 +188,7 @@ impl Target {
         ensures standing { IfOk result (λ o. o.standing ≡ (stepped self.old standing pdu).standing) }
         ensures fed { IfOk result (λ o. o.fed ≡ (stepped self.old standing pdu).fed) }
         ensures out { OnOk result (out.new.items ≡ out.old.items ++ wire (stepped self.old standing pdu).sent) }
+        ensures kept { OnErr result (IsGrown out.old.items out.new.items) }
     {
         match standing {
             Standing::LoggingIn(login) => self.log_in(login, &pdu, out),
@@ -207,6 +211,7 @@ impl Target {
         ensures standing { IfOk result (λ o. o.standing ≡ (steps self.old standing pdus.items).standing) }
         ensures fed { IfOk result (λ o. o.fed ≡ (steps self.old standing pdus.items).fed) }
         ensures out { OnOk result (out.new.items ≡ out.old.items ++ wire (steps self.old standing pdus.items).sent) }
+        ensures kept { OnErr result (IsGrown out.old.items out.new.items) }
     {
         let mut standing = standing;
         for pdu in pdus {

@@ -1,12 +1,12 @@
 -- The pairs of a text are those of the relation.
-use Rattle.std.proofs.Common.{ℕ, zero, suc, Bool, true, false, not, ◌≡◌, ◌∙◌, ◌<◌, ◌≤◌, ◌&&◌, Option, Some, None, List, [], ◌∷◌, ◌++◌, length, refl, ap, sym, subst, arith, append_assoc, append-nil, if◌then◌else◌, ◌==◌}
+use Rattle.std.proofs.Common.{ℕ, zero, suc, Bool, true, false, not, ◌≡◌, ◌∙◌, ◌&&◌, Option, Some, None, List, [], ◌∷◌, ◌++◌, length, refl, ap, sym, subst, arith, append_assoc, append-nil, if◌then◌else◌, ◌==◌}
 use Rattle.std.proofs.lemmas.Bool.{eqb-true}
 use Rattle.std.proofs.lemmas.Bool.Decides.{nat_tests}
 use Rattle.std.proofs.lemmas.List.Folds.{list_all-append}
 use Rattle.std.specs.List.{list_all}
 use Rattle.std.specs.Prelude.{nat_lt, nat_le}
 use Rattle.oi_text.proofs.Pieces.{no_pair-none, same_lists}
-use Rattle.oi_text.specs.Pairs.{ArePairs, IsFault, IsMalformedAt, IsPair, IsText, NoPair, is_key_byte, is_value_byte, spelled, text_of}
+use Rattle.oi_text.specs.Pairs.{ArePairs, IsFault, IsMalformedAt, IsPair, IsText, is_key_byte, is_value_byte, spelled, text_of}
 use Rattle.oi_text.specs.declared.pairs.Pair.{Pair}
 use Rattle.oi_text.specs.declared.pairs.TextFault.TheVariants.{Malformed}
 use Rattle.oi_target_login.specs.Texts.{in_front, is_pair, pair_from, pair_if, pairs_from, text_pairs}

@@ -1,5 +1,5 @@
 -- The security stage at the target (RFC 7143, sections 6.3.3 and 12.1.3; RFC 1994).
-use Rattle.std.specs.Prelude.{ℕ, Bool, true, false, not, ◌&&◌, ◌||◌, ◌==◌, Option, Some, None, is_some, List, [], ◌∷◌, ◌++◌, length, nat_le, codes, if◌then◌else◌}
+use Rattle.std.specs.Prelude.{ℕ, Bool, true, false, not, ◌&&◌, ◌==◌, Option, Some, None, is_some, List, [], ◌∷◌, length, nat_le, codes, if◌then◌else◌}
 use Rattle.std.specs.Fmt.{decimal}
 use Rattle.std.specs.List.{list_any, slice_split}
 use Rattle.oi_base.specs.declared.login.Mutual.{Mutual}
@@ -11,7 +11,7 @@ use Rattle.oi_text.specs.Pairs.{text_of}
 use Rattle.oi_text.specs.declared.pairs.Pair.{Pair}
 use Rattle.rand_chacha.specs.ChaCha.{ChaCha}
 use Rattle.oi_target_login.specs.Answers.{binary_text, keyed}
-use Rattle.oi_target_login.specs.Names.{authentication_failure, initiator_error, is_word}
+use Rattle.oi_target_login.specs.Names.{authentication_failure, is_word}
 use Rattle.oi_target_login.specs.Texts.{binary_bytes, lists}
 use Rattle.oi_target_login.specs.declared.chap.Step.{Step}
 use Rattle.oi_target_login.specs.declared.chap.Step.TheVariants.{Stands, Fails}
@@ -19,7 +19,6 @@ use Rattle.oi_target_login.specs.declared.config.ChapConfig.{ChapConfig}
 use Rattle.oi_target_login.specs.declared.config.LoginRules.{LoginRules}
 use Rattle.oi_target_login.specs.declared.progress.Auth.{Auth}
 use Rattle.oi_target_login.specs.declared.progress.Auth.TheVariants.{Unasked, Chosen, Challenged, Passed}
-use Rattle.oi_target_login.specs.declared.status.Status.{Status}
 
 -- these keys are answered
 abbrev pub stands : Auth → List Pair → Step

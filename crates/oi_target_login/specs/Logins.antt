@@ -1,7 +1,7 @@
 -- The target's side of a login (RFC 7143, sections 6.3 and 11.12): what becomes of each PDU that comes before it is done. For one
 -- request the order is: the opcode, the stages, the length of the text, the count of requests, the C bit, the text, the names,
 -- the values of keys, and the authentication.
-use Rattle.std.specs.Prelude.{ℕ, Bool, true, false, not, ◌&&◌, ◌||◌, ◌==◌, ◌+◌, ◌%◌, ◌^◌, Option, Some, None, is_some, List, [], ◌∷◌, ◌++◌, length, nat_lt, nat_le, if◌then◌else◌}
+use Rattle.std.specs.Prelude.{ℕ, Bool, true, false, not, ◌&&◌, ◌||◌, ◌==◌, ◌+◌, ◌%◌, ◌^◌, Option, Some, None, is_some, List, [], ◌++◌, length, nat_lt, nat_le, if◌then◌else◌}
 use Rattle.oi_base.specs.Serials.{successor}
 use Rattle.oi_base.specs.declared.login.Params.{Params}
 use Rattle.oi_base.specs.declared.serial.Serial.{Serial}
@@ -18,8 +18,6 @@ use Rattle.oi_target_login.specs.Chap.{asked_of, drawn, is_passed, secured, unse
 use Rattle.oi_target_login.specs.Names.{initiator_error, is_sent_away, naming, out_of_resources, status}
 use Rattle.oi_target_login.specs.Texts.{text_pairs}
 use Rattle.oi_target_login.specs.declared.answer.Answer.{Answer}
-use Rattle.oi_target_login.specs.declared.answer.NewSession.{NewSession}
-use Rattle.oi_target_login.specs.declared.answer.Verdict.{Verdict}
 use Rattle.oi_target_login.specs.declared.answer.Verdict.TheVariants.{Going, Closed, Done}
 use Rattle.oi_target_login.specs.declared.call.Call.{Call}
 use Rattle.oi_target_login.specs.declared.chap.Step.{Step}

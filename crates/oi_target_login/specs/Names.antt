@@ -7,7 +7,6 @@ use Rattle.oi_text.specs.declared.pairs.Pair.{Pair}
 use Rattle.oi_target_login.specs.declared.config.LoginRules.{LoginRules}
 use Rattle.oi_target_login.specs.declared.names.Naming.{Naming}
 use Rattle.oi_target_login.specs.declared.names.Naming.TheVariants.{Known, Unknown}
-use Rattle.oi_target_login.specs.declared.progress.Who.{Who}
 use Rattle.oi_target_login.specs.declared.status.Status.{Status}
 
 abbrev pub status : ℕ → ℕ → Status
