@@ -1,5 +1,5 @@
 -- That each command stays found by its tag, and what the number under a tag names.
-use Rattle.std.proofs.Common.{ℕ, Bool, true, false, cond, not, ◌&&◌, ◌≡◌, ◌<◌, ◌+◌, ◌∙◌, List, [], ◌∷◌, ◌++◌, Option, Some, None, is_some, refl, sym, ap, arith, filter, Result, Ok, Err, IfOk, OnErr, OnOk, if◌then◌else◌}
+use Rattle.std.proofs.Common.{ℕ, Bool, true, false, cond, not, ◌≡◌, ◌<◌, ◌+◌, ◌∙◌, List, [], ◌∷◌, ◌++◌, Option, Some, None, is_some, refl, sym, ap, arith, filter, Result, Ok, Err, IfOk, OnErr, OnOk, if◌then◌else◌}
 use Rattle.std.proofs.lemmas.Bool.{and_parts, eq-eqb, eqb-true}
 use Rattle.std.proofs.lemmas.Map.Entries.{lookup-filter-values, option_filter}
 use Rattle.std.proofs.lemmas.Map.Keys.{IsDistinct-from_sorted}
@@ -136,26 +136,6 @@ apart_by k q false h n = h
 -- another key
 apart : (k q : ℕ) → (k ≡ q → ⊥) → is_at (nat_cmp k) q ≡ false
 apart k q n = apart_by k q (is_at (nat_cmp k) q) refl n
-
--- a command and its place go out
-pub IsIndexed-without : (m n : BTreeMap ℕ Task) (q r : BTreeMap ℕ ℕ) (next k : ℕ) (t : Task) → IsIndexed m.entries q.entries next → task_at m.entries k ≡ Some t → UpdatesBy nat_cmp (nat_cmp k) m n None → UpdatesBy nat_cmp (nat_cmp t.tag.0) q r None → IsStrictlySortedBy nat_cmp (keys n) → IsIndexed n.entries r.entries next
-IsIndexed-without m n q r next k t i held gone left s = record {
-  ordered = s;
-  below = λ j u f. i.below j u (was j u f (is_at (nat_cmp k) j) refl);
-  placed = λ j u f. left.2 u.tag.0 (apart t.tag.0 u.tag.0 (other j u f)) ∙ i.placed j u (was j u f (is_at (nat_cmp k) j) refl);
-}
-  where
-    was : (j : ℕ) (u : Task) → task_at n.entries j ≡ Some u → (b : Bool) → is_at (nat_cmp k) j ≡ b → task_at m.entries j ≡ Some u
-    was j u f true h = let none : task_at n.entries j ≡ None = gone.0 j ∙ ap (λ b. cond b None (task_at m.entries j)) h in cc
-    was j u f false h = sym (gone.2 j h) ∙ f
-
-    other : (j : ℕ) (u : Task) → task_at n.entries j ≡ Some u → t.tag.0 ≡ u.tag.0 → ⊥
-    other j u f same =
-        let there : place_of q.entries u.tag.0 ≡ Some j = i.placed j u (was j u f (is_at (nat_cmp k) j) refl) in
-        let here : place_of q.entries t.tag.0 ≡ Some k = i.placed k t held in
-        let both : Some k ≡ Some j = sym here ∙ ap (λ x. place_of q.entries x) same ∙ there in
-        let number : k ≡ j = cc in
-        let none : task_at n.entries j ≡ None = ap (λ x. task_at n.entries x) (sym number) ∙ gone.1 in cc
 
 -- what the index keeps of one command
 record Keeps (places : List (ℕ × ℕ)) (next j : ℕ) (u : Task) : Type 0 where

@@ -1,5 +1,5 @@
 -- Each retain is a filter.
-use Rattle.std.proofs.Common.{ℕ, List, ◌≡◌, sym, ap, ◌∙◌, rules, filter, not, bytes_eq, is_some}
+use Rattle.std.proofs.Common.{ℕ, ap, ◌∙◌, rules, filter, not, bytes_eq, is_some}
 use Rattle.std.proofs.lemmas.Map.Made.{filter_same_pairs}
 use Rattle.std.specs.Map.{values_of}
 use Rattle.oi_target_tasks.proofs.Entries.{values_filter}

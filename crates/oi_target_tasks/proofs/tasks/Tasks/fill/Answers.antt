@@ -1,5 +1,5 @@
 -- The command at the number that is found is the one that waits.
-use Rattle.std.proofs.Common.{◌≡◌, sym, ap, ◌∙◌, refl}
+use Rattle.std.proofs.Common.{sym, ap, ◌∙◌}
 use Rattle.std.specs.Map.{values_of}
 use Rattle.oi_target_tasks.proofs.Indexes.{IsIndexed-changed, filled_asked, filled_err, filled_tag, filled_tasks, found_as, is_found, none_waits, one_replaced, one_waits, unchanged_by, waiting_tag}
 use Rattle.oi_target_tasks.specs.Tasks.{asks_for, filled_in, waiting_in}

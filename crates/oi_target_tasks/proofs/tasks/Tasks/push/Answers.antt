@@ -1,5 +1,5 @@
 -- The number above all others comes last.
-use Rattle.std.proofs.Common.{ℕ, List, ◌≡◌, ◌+◌, sym, subst, ◌∙◌}
+use Rattle.std.proofs.Common.{ℕ, List, sym, subst}
 use Rattle.oi_target_tasks.proofs.Indexes.{IsIndexed-marked, IsIndexed-pushed, pushed_last}
 use Rattle.oi_target_tasks.specs.Places.{IsIndexed}
 use Rattle.oi_target_tasks.specs.declared.task.Task.{Task}
