@@ -1,5 +1,6 @@
 pub mod Answers
 pub mod Chap
+pub mod Grown
 pub mod Logins
 pub mod Names
 pub mod Runs

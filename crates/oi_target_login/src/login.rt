@@ -25,9 +25,10 @@ impl Model for TargetLogin {
 }
 
 impl TargetLogin {
-    ghost use Rattle.std.specs.Prelude.{◌≡◌, ◌++◌, IfOk, OnOk};
+    ghost use Rattle.std.specs.Prelude.{◌≡◌, ◌++◌, IfOk, OnErr, OnOk};
     ghost use Rattle.std.specs.List.{flat_map};
     ghost use Rattle.oi_pdu.specs.Wire.{encoding};
+    ghost use Rattle.oi_target_login.specs.Grown.{IsGrown};
     ghost use Rattle.oi_target_login.specs.Logins.{fresh, turned};
     ghost use Rattle.oi_target_login.specs.Runs.{pdus_of};
 
@@ -54,6 +55,7 @@ impl TargetLogin {
         ensures words { OnOk result (words.new ≡ (turned rules.now handle self.old request.now words.old).words) }
         ensures out { OnOk result (out.new.items ≡ out.old.items ++ flat_map encoding (pdus_of (turned rules.now handle self.old request.now words.old).answer.pdu)) }
         ensures verdict { IfOk result (λ v. v ≡ (turned rules.now handle self.old request.now words.old).answer.verdict) }
+        ensures kept { OnErr result (IsGrown out.old.items out.new.items) }
     {
         let fresh = Progress::fresh(self.alloc, self.progress.stat);
         let progress = mem::replace(&mut self.progress, fresh);

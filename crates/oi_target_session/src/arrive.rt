@@ -1,5 +1,6 @@
-ghost use Rattle.std.specs.Prelude.{◌≡◌, ◌++◌, ◌<◌, IfOk, OnOk, length};
+ghost use Rattle.std.specs.Prelude.{◌≡◌, ◌++◌, ◌<◌, IfOk, OnErr, OnOk, length};
 ghost use Rattle.std.specs.List.{slice_get};
+ghost use Rattle.oi_target_login.specs.Grown.{IsGrown};
 ghost use Rattle.oi_target_session.specs.Answers.{bytes_of};
 ghost use Rattle.oi_target_session.specs.Arrivals.{in_turn, is_held, padded, received};
 ghost use Rattle.oi_target_session.specs.Runs.{run};
@@ -48,6 +49,7 @@ fn serve_in_turn(
     ensures held { OnOk result (held.new.items ≡ (in_turn session.old units.old listing.now pdu held.old.items).held) }
     ensures out { OnOk result (out.new.items ≡ out.old.items ++ bytes_of (in_turn session.old units.old listing.now pdu held.old.items).sent) }
     ensures fed { IfOk result (λ f. f ≡ (in_turn session.old units.old listing.now pdu held.old.items).fed) }
+    ensures kept { OnErr result (IsGrown out.old.items out.new.items) }
 {
     session.advance();
     let slot = held.pop_front();
@@ -74,6 +76,7 @@ pub fn receive(
     ensures held { OnOk result (held.new.items ≡ (received session.old units.old listing.now held.old.items pdu).held) }
     ensures out { OnOk result (out.new.items ≡ out.old.items ++ bytes_of (received session.old units.old listing.now held.old.items pdu).sent) }
     ensures fed { IfOk result (λ f. f ≡ (received session.old units.old listing.now held.old.items pdu).fed) }
+    ensures kept { OnErr result (IsGrown out.old.items out.new.items) }
 {
     match place_of(session.discovers(), session.expected(), pdu.head) {
         Place::Now => session.serve(units, listing, pdu, out),
@@ -105,6 +108,7 @@ pub fn receive_all(
     ensures held { OnOk result (held.new.items ≡ (run session.old units.old listing.now held.old.items pdus.items).held) }
     ensures out { OnOk result (out.new.items ≡ out.old.items ++ bytes_of (run session.old units.old listing.now held.old.items pdus.items).sent) }
     ensures fed { IfOk result (λ f. f ≡ (run session.old units.old listing.now held.old.items pdus.items).fed) }
+    ensures kept { OnErr result (IsGrown out.old.items out.new.items) }
 {
     for pdu in pdus {
         match receive(session, units, listing, held, pdu, out)? {

@@ -1,4 +1,5 @@
-ghost use Rattle.std.specs.Prelude.{◌≡◌, ◌++◌, ◌≤◌, ◌<◌, ◌+◌, ◌^◌, IfOk, OnOk, drop, length};
+ghost use Rattle.std.specs.Prelude.{◌≡◌, ◌++◌, ◌≤◌, ◌<◌, ◌+◌, ◌^◌, IfOk, OnErr, OnOk, drop, length};
+ghost use Rattle.oi_target_login.specs.Grown.{IsGrown};
 ghost use Rattle.oi_target_session.specs.Answers.{bytes_of};
 ghost use Rattle.oi_target_session.specs.Sequences.{AreLimits, data_pdus, piece_head, piece_size};
 
@@ -71,7 +72,8 @@ pub fn write_data(
 ) -> Result<(), NoMemory>
     requires limits { AreLimits source.limits }
     requires most { length bytes.now < 2 ^ 32 }
-    ensures { OnOk result (out.new.items ≡ out.old.items ++ bytes_of (data_pdus source.limits source.numbers source.tag source.residual (length bytes.now) 0 0 bytes.now)) }
+    ensures out { OnOk result (out.new.items ≡ out.old.items ++ bytes_of (data_pdus source.limits source.numbers source.tag source.residual (length bytes.now) 0 0 bytes.now)) }
+    ensures kept { OnErr result (IsGrown out.old.items out.new.items) }
 {
     let mut rest = bytes;
     let mut at = 0u32;

@@ -1,5 +1,6 @@
-ghost use Rattle.std.specs.Prelude.{◌≡◌, ◌++◌, ◌∷◌, [], IfOk, OnOk, bytes_eq, filter, not};
+ghost use Rattle.std.specs.Prelude.{◌≡◌, ◌++◌, ◌∷◌, [], IfOk, OnErr, OnOk, bytes_eq, filter, not};
 ghost use Rattle.std.specs.List.{list_any};
+ghost use Rattle.oi_target_login.specs.Grown.{IsGrown};
 ghost use Rattle.oi_target_session.specs.Answers.{bytes_of, task_response_pdu};
 ghost use Rattle.oi_target_session.specs.Sessions.{aborted, managed, reset_as, reset_by, responded, spared, with_reset, with_tasks};
 ghost use Rattle.oi_target_session.specs.Tasks.{waits_as};
@@ -67,6 +68,7 @@ impl Session {
         ensures session { OnOk result (self.new ≡ (responded self.old tag response).session) }
         ensures out { OnOk result (out.new.items ≡ out.old.items ++ bytes_of (responded self.old tag response).sent) }
         ensures fed { IfOk result (λ f. f ≡ (responded self.old tag response).fed) }
+        ensures kept { OnErr result (IsGrown out.old.items out.new.items) }
     {
         let pdu = task_response_pdu(self.alloc, self.numbers, tag, response);
         write_pdu(&pdu, out)?;
@@ -78,6 +80,7 @@ impl Session {
         ensures session { OnOk result (self.new ≡ (aborted self.old h).session) }
         ensures out { OnOk result (out.new.items ≡ out.old.items ++ bytes_of (aborted self.old h).sent) }
         ensures fed { IfOk result (λ f. f ≡ (aborted self.old h).fed) }
+        ensures kept { OnErr result (IsGrown out.old.items out.new.items) }
     {
         let tag = h.referenced.0;
         if is_awaited(&self.tasks, tag) {
@@ -92,6 +95,7 @@ impl Session {
         ensures session { OnOk result (self.new ≡ (reset_as self.old h reset).session) }
         ensures out { OnOk result (out.new.items ≡ out.old.items ++ bytes_of (reset_as self.old h reset).sent) }
         ensures fed { IfOk result (λ f. f ≡ (reset_as self.old h reset).fed) }
+        ensures kept { OnErr result (IsGrown out.old.items out.new.items) }
     {
         spare(&mut self.tasks, reset);
         self.resets.push(reset)?;
@@ -108,6 +112,7 @@ impl Session {
         ensures session { OnOk result (self.new ≡ (managed self.old units.now h).session) }
         ensures out { OnOk result (out.new.items ≡ out.old.items ++ bytes_of (managed self.old units.now h).sent) }
         ensures fed { IfOk result (λ f. f ≡ (managed self.old units.now h).fed) }
+        ensures kept { OnErr result (IsGrown out.old.items out.new.items) }
     {
         match h.function {
             ABORT_TASK => self.abort(h, out),

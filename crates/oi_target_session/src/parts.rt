@@ -1,6 +1,7 @@
-ghost use Rattle.std.specs.Prelude.{◌≡◌, ◌++◌, ◌<◌, ◌≤◌, ◌^◌, [], IfOk, OnOk, drop, length, replicate, take};
+ghost use Rattle.std.specs.Prelude.{◌≡◌, ◌++◌, ◌<◌, ◌≤◌, ◌^◌, [], IfOk, OnErr, OnOk, drop, length, replicate, take};
 ghost use Rattle.oi_pdu.specs.Segments.{padding};
 ghost use Rattle.oi_pdu.specs.Wire.{encoding};
+ghost use Rattle.oi_target_login.specs.Grown.{IsGrown};
 
 use oi_base::{Blob, NoMemory};
 use oi_pdu::{Header, Pdu, write_pdu};
@@ -36,7 +37,8 @@ fn bare_header(alloc: Global, head: Header) -> Result<Vec<u8>, NoMemory>
 
 // Zero bytes behind so many bytes of data, up to a multiple of 4.
 fn put_padding(size: usize, out: &mut Vec<u8>) -> Result<(), NoMemory>
-    ensures { OnOk result (out.new.items ≡ out.old.items ++ replicate (padding size) 0) }
+    ensures out { OnOk result (out.new.items ≡ out.old.items ++ replicate (padding size) 0) }
+    ensures kept { OnErr result (out.new.items ≡ out.old.items) }
 {
     out.extend_from_slice(front(&[0u8; 3], (4 - size % 4) % 4))?;
     Ok(())
@@ -50,7 +52,8 @@ pub fn write_parts(
     out: &mut Vec<u8>,
 ) -> Result<(), NoMemory>
     requires { length payload.now < 2 ^ 24 }
-    ensures { OnOk result (out.new.items ≡ out.old.items ++ encoding (record { head = head; payload = payload.now })) }
+    ensures out { OnOk result (out.new.items ≡ out.old.items ++ encoding (record { head = head; payload = payload.now })) }
+    ensures kept { OnErr result (IsGrown out.old.items out.new.items) }
 {
     let header = bare_header(alloc, head)?;
     let size = (payload.len() as u32).to_be_bytes();

@@ -1,5 +1,6 @@
-ghost use Rattle.std.specs.Prelude.{◌≡◌, ◌≤◌, ◌<◌, ◌+◌, ◌++◌, ◌^◌, Some, None, false, true, [], ◌∷◌, IfOk, IfNone, IfSome, OnOk, MatchOption, length, slice_get, slice_index_or, take};
+ghost use Rattle.std.specs.Prelude.{◌≡◌, ◌≤◌, ◌<◌, ◌+◌, ◌++◌, ◌^◌, Some, None, false, true, [], ◌∷◌, IfOk, IfNone, IfSome, OnErr, OnOk, MatchOption, length, slice_get, slice_index_or, take};
 ghost use Rattle.std.specs.List.{list_any, position};
+ghost use Rattle.oi_target_login.specs.Grown.{IsGrown};
 ghost use Rattle.oi_target_session.specs.Answers.{bytes_of};
 ghost use Rattle.oi_target_session.specs.Arrivals.{advanced};
 ghost use Rattle.oi_target_session.specs.Sequences.{AreLimits, data_pdus};
@@ -140,6 +141,7 @@ impl Session {
     fn queue(&mut self, task: Task, out: &mut Vec<u8>) -> Result<(), NoMemory>
         ensures session { OnOk result (self.new ≡ (queued self.old task).session) }
         ensures out { OnOk result (out.new.items ≡ out.old.items ++ bytes_of (queued self.old task).sent) }
+        ensures kept { OnErr result (IsGrown out.old.items out.new.items) }
     {
         let mut task = task;
         if task.is_waiting() {
@@ -156,6 +158,7 @@ impl Session {
         ensures session { OnOk result (self.new ≡ (commanded self.old h payload).session) }
         ensures out { OnOk result (out.new.items ≡ out.old.items ++ bytes_of (commanded self.old h payload).sent) }
         ensures fed { IfOk result (λ f. f ≡ (commanded self.old h payload).fed) }
+        ensures kept { OnErr result (IsGrown out.old.items out.new.items) }
     {
         if self.is_unfit(h, payload.as_slice()) {
             return Ok(Fed::Closed);
@@ -168,6 +171,7 @@ impl Session {
         ensures session { OnOk result (self.new ≡ (pinged self.old h payload.now).session) }
         ensures out { OnOk result (out.new.items ≡ out.old.items ++ bytes_of (pinged self.old h payload.now).sent) }
         ensures fed { IfOk result (λ f. f ≡ (pinged self.old h payload.now).fed) }
+        ensures kept { OnErr result (IsGrown out.old.items out.new.items) }
     {
         if h.tag.0 == NO_TAG {
             return Ok(Fed::Going);
@@ -182,6 +186,7 @@ impl Session {
         ensures session { OnOk result (self.new ≡ (logged_out self.old h).session) }
         ensures out { OnOk result (out.new.items ≡ out.old.items ++ bytes_of (logged_out self.old h).sent) }
         ensures fed { IfOk result (λ f. f ≡ (logged_out self.old h).fed) }
+        ensures kept { OnErr result (IsGrown out.old.items out.new.items) }
     {
         write_pdu(&logout_pdu(self.alloc, self.numbers, h.tag), out)?;
         self.numbers = self.numbers.after_status();
@@ -198,6 +203,7 @@ impl Session {
         ensures session { OnOk result (self.new ≡ (data_out self.old h payload.now).session) }
         ensures out { OnOk result (out.new.items ≡ out.old.items ++ bytes_of (data_out self.old h payload.now).sent) }
         ensures fed { IfOk result (λ f. f ≡ (data_out self.old h payload.now).fed) }
+        ensures kept { OnErr result (IsGrown out.old.items out.new.items) }
     {
         let Some(at) = self.waiting_as(h.tag.0) else {
             return Ok(Fed::Going);
@@ -218,6 +224,7 @@ impl Session {
         ensures session { OnOk result (self.new ≡ (filled_at self.old at (grown (slice_index_or self.old.tasks at no_task) payload.now)).session) }
         ensures out { OnOk result (out.new.items ≡ out.old.items ++ bytes_of (filled_at self.old at (grown (slice_index_or self.old.tasks at no_task) payload.now)).sent) }
         ensures fed { (filled_at self.old at (grown (slice_index_or self.old.tasks at no_task) payload.now)).fed ≡ Going }
+        ensures kept { OnErr result (IsGrown out.old.items out.new.items) }
     {
         if self.tasks[at].fill(self.alloc, payload, self.transfer, self.limits.max_burst)? {
             let task = &self.tasks[at];
@@ -239,6 +246,7 @@ impl Session {
         requires { length bytes.now < 2 ^ 32 }
         ensures session { OnOk result (self.new ≡ counted self.old) }
         ensures out { OnOk result (out.new.items ≡ out.old.items ++ bytes_of (data_pdus self.old.limits self.old.numbers tag residual (length bytes.now) 0 0 bytes.now)) }
+        ensures kept { OnErr result (IsGrown out.old.items out.new.items) }
     {
         let source = Source {
             limits: self.limits,
@@ -256,6 +264,7 @@ impl Session {
         requires { length reply.now.sent < 2 ^ 32 }
         ensures session { OnOk result (self.new ≡ counted self.old) }
         ensures out { OnOk result (out.new.items ≡ out.old.items ++ bytes_of (reply_pdus self.old task.now reply.now)) }
+        ensures kept { OnErr result (IsGrown out.old.items out.new.items) }
     {
         if reply.sent.as_slice().is_empty() {
             write_pdu(&response_pdu(self.alloc, self.numbers, task, reply)?, out)?;
@@ -271,6 +280,7 @@ impl Session {
         ensures session { OnOk result (self.new ≡ counted self.old) }
         ensures units { OnOk result (units.new ≡ (executed units.old self.old.nexus task.now.command task.now.payload).units) }
         ensures out { OnOk result (out.new.items ≡ out.old.items ++ bytes_of (reply_pdus self.old task.now (executed units.old self.old.nexus task.now.command task.now.payload).reply)) }
+        ensures kept { OnErr result (IsGrown out.old.items out.new.items) }
     {
         if let Some(data) = units.lend(&self.nexus, task.command) {
             self.send(task.tag, data.residual, data.bytes, out)?;
@@ -302,6 +312,7 @@ impl Session {
         ensures session { OnOk result (self.new ≡ (drained self.old units.old self.old.tasks).session) }
         ensures units { OnOk result (units.new ≡ (drained self.old units.old self.old.tasks).units) }
         ensures out { OnOk result (out.new.items ≡ out.old.items ++ bytes_of (drained self.old units.old self.old.tasks).sent) }
+        ensures kept { OnErr result (IsGrown out.old.items out.new.items) }
     {
         while let Some(task) = self.next_ready() {
             self.execute(units, &task, out)?;
@@ -318,6 +329,7 @@ impl Session {
         ensures session { OnOk result (self.new ≡ (handled_normally self.old units.now pdu.head pdu.payload).session) }
         ensures out { OnOk result (out.new.items ≡ out.old.items ++ bytes_of (handled_normally self.old units.now pdu.head pdu.payload).sent) }
         ensures fed { IfOk result (λ f. f ≡ (handled_normally self.old units.now pdu.head pdu.payload).fed) }
+        ensures kept { OnErr result (IsGrown out.old.items out.new.items) }
     {
         let Pdu { head, payload } = pdu;
         match head {
@@ -339,6 +351,7 @@ impl Session {
         ensures session { OnOk result (self.new ≡ (handled_discovering self.old listing.now pdu.head pdu.payload).session) }
         ensures out { OnOk result (out.new.items ≡ out.old.items ++ bytes_of (handled_discovering self.old listing.now pdu.head pdu.payload).sent) }
         ensures fed { IfOk result (λ f. f ≡ (handled_discovering self.old listing.now pdu.head pdu.payload).fed) }
+        ensures kept { OnErr result (IsGrown out.old.items out.new.items) }
     {
         let Pdu { head, payload } = pdu;
         match head {
@@ -359,6 +372,7 @@ impl Session {
         ensures session { OnOk result (self.new ≡ (handled self.old units.now listing.now pdu.head pdu.payload).session) }
         ensures out { OnOk result (out.new.items ≡ out.old.items ++ bytes_of (handled self.old units.now listing.now pdu.head pdu.payload).sent) }
         ensures fed { IfOk result (λ f. f ≡ (handled self.old units.now listing.now pdu.head pdu.payload).fed) }
+        ensures kept { OnErr result (IsGrown out.old.items out.new.items) }
     {
         if self.discovers {
             self.handle_discovering(listing, pdu, out)
@@ -379,6 +393,7 @@ impl Session {
         ensures units { OnOk result (units.new ≡ (served self.old units.old listing.now pdu).units) }
         ensures out { OnOk result (out.new.items ≡ out.old.items ++ bytes_of (served self.old units.old listing.now pdu).sent) }
         ensures fed { IfOk result (λ f. f ≡ (served self.old units.old listing.now pdu).fed) }
+        ensures kept { OnErr result (IsGrown out.old.items out.new.items) }
     {
         match self.handle(units, listing, pdu, out)? {
             Fed::Closed => Ok(Fed::Closed),

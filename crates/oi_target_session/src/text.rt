@@ -1,4 +1,5 @@
-ghost use Rattle.std.specs.Prelude.{◌≡◌, ◌++◌, ◌<◌, ◌^◌, Some, IfOk, OnOk, drop, take, length};
+ghost use Rattle.std.specs.Prelude.{◌≡◌, ◌++◌, ◌<◌, ◌^◌, Some, IfOk, OnErr, OnOk, drop, take, length};
+ghost use Rattle.oi_target_login.specs.Grown.{IsGrown};
 ghost use Rattle.oi_target_login.specs.Texts.{text_pairs};
 ghost use Rattle.oi_target_session.specs.Answers.{bytes_of, text_pdu};
 ghost use Rattle.oi_target_session.specs.Listings.{listing_of, listing_text};
@@ -64,6 +65,7 @@ impl Session {
         ensures session { OnOk result (self.new ≡ (text_kept self.old h text).session) }
         ensures out { OnOk result (out.new.items ≡ out.old.items ++ bytes_of (text_kept self.old h text).sent) }
         ensures fed { IfOk result (λ f. f ≡ (text_kept self.old h text).fed) }
+        ensures kept { OnErr result (IsGrown out.old.items out.new.items) }
     {
         let none = Blob::new(self.alloc);
         write_pdu(&text_pdu(self.numbers, h.tag, false, true, none), out)?;
@@ -77,6 +79,7 @@ impl Session {
         ensures session { OnOk result (self.new ≡ (text_sent self.old h text.now).session) }
         ensures out { OnOk result (out.new.items ≡ out.old.items ++ bytes_of (text_sent self.old h text.now).sent) }
         ensures fed { IfOk result (λ f. f ≡ (text_sent self.old h text.now).fed) }
+        ensures kept { OnErr result (IsGrown out.old.items out.new.items) }
     {
         let payload = front(self.alloc, text, self.limits)?;
         let more = (self.limits.max_send as usize) < text.len();
@@ -97,6 +100,7 @@ impl Session {
         ensures session { OnOk result (self.new ≡ (text_read self.old listing.now h (text_pairs text.now)).session) }
         ensures out { OnOk result (out.new.items ≡ out.old.items ++ bytes_of (text_read self.old listing.now h (text_pairs text.now)).sent) }
         ensures fed { IfOk result (λ f. f ≡ (text_read self.old listing.now h (text_pairs text.now)).fed) }
+        ensures kept { OnErr result (IsGrown out.old.items out.new.items) }
     {
         let Some(pairs) = read_text(self.alloc, text)? else {
             return Ok(Fed::Closed);
@@ -115,6 +119,7 @@ impl Session {
         ensures session { OnOk result (self.new ≡ (texted_with self.old listing.now h text).session) }
         ensures out { OnOk result (out.new.items ≡ out.old.items ++ bytes_of (texted_with self.old listing.now h text).sent) }
         ensures fed { IfOk result (λ f. f ≡ (texted_with self.old listing.now h text).fed) }
+        ensures kept { OnErr result (IsGrown out.old.items out.new.items) }
     {
         if MOST_TEXT < text.as_slice().len() {
             return Ok(Fed::Closed);
@@ -140,6 +145,7 @@ impl Session {
         ensures session { OnOk result (self.new ≡ (texted self.old listing.now h payload.now).session) }
         ensures out { OnOk result (out.new.items ≡ out.old.items ++ bytes_of (texted self.old listing.now h payload.now).sent) }
         ensures fed { IfOk result (λ f. f ≡ (texted self.old listing.now h payload.now).fed) }
+        ensures kept { OnErr result (IsGrown out.old.items out.new.items) }
     {
         let mut text = Vec::from_slice(self.alloc, self.text.as_slice())?;
         text.extend_from_slice(payload)?;
