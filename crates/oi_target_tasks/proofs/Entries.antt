@@ -169,3 +169,15 @@ values_filter p (e ∷ es) = values_step (p e.1) e (filter (λ e. p e.1) es) (fi
     values_step : (c : Bool) (e : ℕ × Task) (kept : List (ℕ × Task)) (ts : List Task) → values_of kept ≡ ts → values_of (cond c (e ∷ kept) kept) ≡ cond c (e.1 ∷ ts) ts
     values_step true e kept ts ih = ap (λ x. e.1 ∷ x) ih
     values_step false e kept ts ih = ih
+
+-- what took the place of the one that waits is found, where it waits too
+pub find_replaced : (tag : ℕ) (w : Task) (ts : List Task) → w.tag.0 ≡ tag → waits_as tag w ≡ true → is_some (find (waits_as tag) ts) ≡ true → find (waits_as tag) (replaced w ts) ≡ Some w
+find_replaced tag w [] same waits h = cc
+find_replaced tag w (t ∷ ts) same waits h =
+    place_step (waits_as tag t) (waits_as w.tag.0 t) (ap (λ q. waits_as q t) same) refl h (find_replaced tag w ts same waits)
+  where
+    place_step : (b c : Bool) → c ≡ b → waits_as tag t ≡ b → is_some (cond b (Some t) (find (waits_as tag) ts)) ≡ true → (is_some (find (waits_as tag) ts) ≡ true → find (waits_as tag) (replaced w ts) ≡ Some w) → find (waits_as tag) (cond c (w ∷ ts) (t ∷ replaced w ts)) ≡ Some w
+    place_step true true e g k ih = ap (λ v. cond v (Some w) (find (waits_as tag) ts)) waits
+    place_step true false e g k ih = cc
+    place_step false true e g k ih = cc
+    place_step false false e g k ih = ap (λ v. cond v (Some t) (find (waits_as tag) (replaced w ts))) g ∙ ih k

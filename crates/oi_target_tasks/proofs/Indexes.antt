@@ -1,6 +1,6 @@
 -- That each command stays found by its tag, and what the number under a tag names.
-use Rattle.std.proofs.Common.{ℕ, Bool, true, false, cond, not, ◌≡◌, ◌<◌, ◌+◌, ◌∙◌, List, [], ◌∷◌, ◌++◌, Option, Some, None, is_some, refl, sym, ap, arith, filter, Result, Ok, Err, IfOk, OnErr, OnOk, if◌then◌else◌}
-use Rattle.std.proofs.lemmas.Bool.{and_parts, eq-eqb, eqb-true}
+use Rattle.std.proofs.Common.{ℕ, Bool, true, false, cond, not, ◌≡◌, ◌<◌, ◌+◌, ◌∙◌, List, [], ◌∷◌, ◌++◌, ◌==◌, length, Option, Some, None, is_some, refl, sym, ap, arith, filter, Result, Ok, Err, IfOk, OnErr, OnOk, if◌then◌else◌}
+use Rattle.std.proofs.lemmas.Bool.{and_from, and_parts, eq-eqb, eqb-true}
 use Rattle.std.proofs.lemmas.Map.Entries.{lookup-filter-values, option_filter}
 use Rattle.std.proofs.lemmas.Map.Keys.{IsDistinct-from_sorted}
 use Rattle.std.proofs.lemmas.Map.Steps.{set_value_same}
@@ -11,9 +11,9 @@ use Rattle.std.specs.List.Sorted.{IsStrictlySortedBy}
 use Rattle.std.specs.Map.{keys_of, remove_entry, set_value, values_of}
 use Rattle.std.specs.Ordering.{nat_cmp}
 use Rattle.oi_base.specs.declared.memory.NoMemory.{NoMemory}
-use Rattle.oi_target_tasks.proofs.Entries.{IsOnly, any_found, filter_none, filter_only, find_none, find_only, insert_last, not_any, replaced_only, same_key, values_last}
+use Rattle.oi_target_tasks.proofs.Entries.{IsOnly, any_found, filter_none, filter_only, find_none, find_only, find_replaced, insert_last, not_any, replaced_only, same_key, values_last}
 use Rattle.oi_target_tasks.specs.Places.{IsIndexed, is_waiting_at, number_waiting, place_of, task_at}
-use Rattle.oi_target_tasks.specs.Tasks.{asking_by, asks_for, filled_in, grown, has_tag, is_asking, is_busy, is_stuck, is_waiting, replaced, waits_as}
+use Rattle.oi_target_tasks.specs.Tasks.{asked_again, asking_by, asks_for, filled_in, grown, has_tag, is_asking, is_busy, is_stuck, is_waiting, replaced, waits_as}
 use Rattle.oi_target_tasks.specs.declared.task.Task.{Task}
 
 -- a test that only commands with this tag pass
@@ -279,3 +279,19 @@ module _ (r : Result Bool NoMemory) (t w : Task) (payload : List ℕ) (transfer 
 pub unchanged_by : (es es' : List (ℕ × Task)) (k : ℕ) (t w : Task) (tasks : List Task) → values_of es ≡ tasks → es' ≡ set_value (is_at (nat_cmp k)) es w → Some t ≡ task_at es k → w ≡ t → values_of es' ≡ tasks
 unchanged_by es es' k t w tasks v put is same =
     ap values_of (put ∙ ap (λ x. set_value (is_at (nat_cmp k)) es x) same ∙ set_value_same (is_at (nat_cmp k)) es t (sym is)) ∙ v
+
+-- one that asks for more waits still
+asking_waits : (tag : ℕ) (t : Task) (payload : List ℕ) (transfer burst : ℕ) → waits_as tag t ≡ true → is_asking (grown t payload) ≡ true → waits_as tag (asking_by transfer burst (grown t payload)) ≡ true
+asking_waits tag t payload transfer burst w h =
+    and_from (has_tag tag t) (is_waiting (grown t payload)) (and_parts (has_tag tag t) (is_waiting t) w).0
+    (and_parts (length (grown t payload).payload == t.end) (is_waiting (grown t payload)) h).1
+
+-- so it is found again
+pub filled_again : (r : Result Bool NoMemory) (tag : ℕ) (t w : Task) (payload : List ℕ) (transfer burst : ℕ) (values tasks : List Task) → waits_as tag t ≡ true → IfOk r (λ asked. asked ≡ is_asking (grown t payload)) → IfOk r (λ asked. w ≡ (if asked then asking_by transfer burst (grown t payload) else grown t payload)) → values ≡ replaced w tasks → find (waits_as tag) tasks ≡ Some t → IfOk r (λ asked. asked ≡ true → find (waits_as tag) values ≡ asked_again transfer burst payload (find (waits_as tag) tasks))
+filled_again (Ok a) tag t w payload transfer burst values tasks waits asked ok put found = λ yes.
+    let again : Task = asking_by transfer burst (grown t payload) in
+    let here : waits_as tag again ≡ true = asking_waits tag t payload transfer burst waits (sym asked ∙ yes) in
+    let is : w ≡ again = ok ∙ ap (λ b. if b then asking_by transfer burst (grown t payload) else grown t payload) yes in
+    ap (find (waits_as tag)) (put ∙ ap (λ x. replaced x tasks) is) ∙ find_replaced tag again tasks (waiting_tag tag t waits) here (ap (λ o. is_some o) found)
+    ∙ sym (ap (asked_again transfer burst payload) found)
+filled_again (Err e) tag t w payload transfer burst values tasks waits asked ok put found = tt

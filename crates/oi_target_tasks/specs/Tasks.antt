@@ -92,3 +92,8 @@ filled_in transfer burst payload (Some t) tasks = replaced (filled transfer burs
 abbrev pub asks_for : List ℕ → Option Task → Bool
 asks_for payload None = false
 asks_for payload (Some t) = is_asking (grown t payload)
+
+-- it is then
+abbrev pub asked_again : ℕ → ℕ → List ℕ → Option Task → Option Task
+asked_again transfer burst payload None = None
+asked_again transfer burst payload (Some t) = Some (asking_by transfer burst (grown t payload))

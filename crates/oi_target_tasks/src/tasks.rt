@@ -1,7 +1,7 @@
 ghost use Rattle.std.specs.Prelude.{◌≡◌, ◌++◌, ◌∷◌, [], false, true, IfNone, IfOk, IfSome, OnErr, OnOk, bytes_eq, filter, not, option_copied};
 ghost use Rattle.std.specs.List.{list_any};
 ghost use Rattle.oi_target_tasks.specs.Places.{number_waiting, place_of};
-ghost use Rattle.oi_target_tasks.specs.Tasks.{asks_for, filled_in, is_busy, is_stuck, is_waiting, waiting_in, waits_as};
+ghost use Rattle.oi_target_tasks.specs.Tasks.{asked_again, asks_for, filled_in, is_busy, is_stuck, is_waiting, waiting_in, waits_as};
 
 use crate::task::Task;
 use oi_base::NoMemory;
@@ -110,6 +110,7 @@ impl Tasks {
     ) -> Result<bool, NoMemory>
         ensures asked { IfOk result (λ asked. asked ≡ asks_for payload.now (waiting_in tag self.old)) }
         ensures tasks { OnOk result (self.new ≡ filled_in transfer burst payload.now (waiting_in tag self.old) self.old) }
+        ensures again { IfOk result (λ asked. asked ≡ true → waiting_in tag self.new ≡ asked_again transfer burst payload.now (waiting_in tag self.old)) }
         ensures err { OnErr result (self.new ≡ self.old) }
     {
         let Some(number) = waiting_at(&self.order, &self.places, tag) else {
@@ -140,6 +141,7 @@ impl Tasks {
     pub fn drop_waiting(&mut self, tag: u32) -> bool
         ensures dropped { result ≡ list_any (waits_as tag) self.old }
         ensures tasks { self.new ≡ filter (λ t. not (waits_as tag t)) self.old }
+        ensures none { result ≡ false → self.new ≡ self.old }
     {
         let Some(number) = waiting_at(&self.order, &self.places, tag) else {
             return false;

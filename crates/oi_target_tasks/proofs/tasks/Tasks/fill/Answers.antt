@@ -1,7 +1,7 @@
 -- The command at the number that is found is the one that waits.
 use Rattle.std.proofs.Common.{sym, ap, ◌∙◌}
 use Rattle.std.specs.Map.{values_of}
-use Rattle.oi_target_tasks.proofs.Indexes.{IsIndexed-changed, filled_asked, filled_err, filled_tag, filled_tasks, found_as, is_found, none_waits, one_replaced, one_waits, unchanged_by, waiting_tag}
+use Rattle.oi_target_tasks.proofs.Indexes.{IsIndexed-changed, filled_again, filled_asked, filled_err, filled_tag, filled_tasks, found_as, is_found, none_waits, one_replaced, one_waits, unchanged_by, waiting_tag}
 use Rattle.oi_target_tasks.specs.Tasks.{asks_for, filled_in, waiting_in}
 use Rattle.oi_target_tasks.proofs.tasks.Tasks.fill.Goals as goal
 
@@ -37,6 +37,16 @@ returns-clause-tasks c =
     let f = found_as (is_found c.self.inside.order.entries c.self.inside.places.entries c.args.tag c.in-Some.number (sym c.waiting_at.ensures ∙ c.in-Some.is)) t c.in-Some-get_mut.ensures.value in
     let same = filled_tag c.fill.result t w c.args.payload.now c.args.transfer c.args.burst (waiting_in c.args.tag c.args.self.now) c.args.self.now c.args.self.now c.fill.ensures.task c.fill.ensures.err in
     filled_tasks c.fill.result t w c.args.payload.now c.args.transfer c.args.burst (waiting_in c.args.tag c.args.self.now) (values_of (c.get_mut.follows.lender w).entries) c.args.self.now c.fill.ensures.asked c.fill.ensures.task
+    (ap values_of (c.get_mut.follows.holds w).0 ∙ one_replaced c.self.invariant c.args.self.now c.self.view_is c.args.tag c.in-Some.number f w (same ∙ waiting_tag c.args.tag t f.waits))
+    (one_waits c.self.invariant c.args.self.now c.self.view_is c.args.tag c.in-Some.number f)
+
+pub returns-clause-again : goal.returns-clause-again
+returns-clause-again c =
+    let t = c.in-Some-get_mut.task.now in
+    let w = c.fill.new.self in
+    let f = found_as (is_found c.self.inside.order.entries c.self.inside.places.entries c.args.tag c.in-Some.number (sym c.waiting_at.ensures ∙ c.in-Some.is)) t c.in-Some-get_mut.ensures.value in
+    let same = filled_tag c.fill.result t w c.args.payload.now c.args.transfer c.args.burst (waiting_in c.args.tag c.args.self.now) c.args.self.now c.args.self.now c.fill.ensures.task c.fill.ensures.err in
+    filled_again c.fill.result c.args.tag t w c.args.payload.now c.args.transfer c.args.burst (values_of (c.get_mut.follows.lender w).entries) c.args.self.now f.waits c.fill.ensures.asked c.fill.ensures.task
     (ap values_of (c.get_mut.follows.holds w).0 ∙ one_replaced c.self.invariant c.args.self.now c.self.view_is c.args.tag c.in-Some.number f w (same ∙ waiting_tag c.args.tag t f.waits))
     (one_waits c.self.invariant c.args.self.now c.self.view_is c.args.tag c.in-Some.number f)
 
