@@ -210,7 +210,10 @@ impl Session {
         ensures kept { OnErr result (IsGrown out.old.items out.new.items) }
     {
         let burst = self.limits.max_burst;
-        if !self.tasks.fill(self.alloc, tag, payload, self.transfer, burst)? {
+        let asked = self
+            .tasks
+            .fill(self.alloc, tag, payload, self.transfer, burst)?;
+        if !asked {
             return Ok(());
         }
         let Some(task) = self.tasks.waiting(tag) else {
