@@ -7,9 +7,9 @@ use Rattle.oi_pdu.specs.declared.codec.Pdu.{Pdu}
 use Rattle.oi_target_session.specs.Answers.{bytes_of, response_pdu}
 use Rattle.oi_target_session.specs.Sequences.{data_pdus}
 use Rattle.oi_target_session.specs.Sessions.{Session, Turn, behind, counted, drained, reply_pdus, with_tasks}
-use Rattle.oi_target_session.specs.Tasks.{is_waiting}
+use Rattle.oi_target_tasks.specs.Tasks.{is_waiting}
 use Rattle.oi_target_session.specs.declared.fed.Fed.TheVariants.{Going}
-use Rattle.oi_target_session.specs.declared.task.Task.{Task}
+use Rattle.oi_target_tasks.specs.declared.task.Task.{Task}
 use Rattle.oi_units.proofs.Lending.{lent_is_executed}
 use Rattle.oi_units.specs.Units.{Executed, executed, lent}
 use Rattle.oi_units.specs.declared.command.UnitCommand.{UnitCommand}

@@ -5,7 +5,7 @@ use Rattle.oi_sendtargets.specs.declared.found.Found.{Found}
 use Rattle.oi_target_session.specs.Arrivals.{Received, ahead_of, received}
 use Rattle.oi_target_session.specs.Runs.{RepliesInOrder, RunsJoin, UnitsInOrder, one_then, ready, replies_sent, request_of, run}
 use Rattle.oi_target_session.specs.Sessions.{behind, counted, drained, reply_pdus, with_tasks}
-use Rattle.oi_target_session.specs.Tasks.{is_waiting}
+use Rattle.oi_target_tasks.specs.Tasks.{is_waiting}
 use Rattle.oi_target_session.specs.declared.fed.Fed.{Fed}
 use Rattle.oi_target_session.specs.declared.fed.Fed.TheVariants.{Going, Closed}
 use Rattle.oi_units.specs.Runs.{replies, units_after}

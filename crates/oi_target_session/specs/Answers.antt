@@ -10,7 +10,7 @@ use Rattle.oi_pdu.specs.declared.header.Header.TheVariants as head
 use Rattle.oi_recovery.specs.declared.hit.Residual.{Residual}
 use Rattle.oi_recovery.specs.declared.hit.Residual.TheVariants.{Exact, Under, Over}
 use Rattle.oi_target_session.specs.declared.limits.Numbers.{Numbers}
-use Rattle.oi_target_session.specs.declared.task.Task.{Task}
+use Rattle.oi_target_tasks.specs.declared.task.Task.{Task}
 use Rattle.oi_units.specs.declared.reply.UnitReply.{UnitReply}
 
 -- PDUs on the wire, one after another

@@ -5,4 +5,3 @@ pub mod Listings
 pub mod Runs
 pub mod Sequences
 pub mod Sessions
-pub mod Tasks

@@ -4,10 +4,10 @@ use Rattle.oi_pdu.specs.declared.codec.Pdu.{Pdu}
 use Rattle.oi_sendtargets.specs.declared.found.Found.{Found}
 use Rattle.oi_target_session.specs.Arrivals.{Held, Received, ahead_of, received, unmoved}
 use Rattle.oi_target_session.specs.Sessions.{Session, counted, drained, reply_pdus}
-use Rattle.oi_target_session.specs.Tasks.{is_waiting}
+use Rattle.oi_target_tasks.specs.Tasks.{is_waiting}
 use Rattle.oi_target_session.specs.declared.fed.Fed.{Fed}
 use Rattle.oi_target_session.specs.declared.fed.Fed.TheVariants.{Going, Closed}
-use Rattle.oi_target_session.specs.declared.task.Task.{Task}
+use Rattle.oi_target_tasks.specs.declared.task.Task.{Task}
 use Rattle.oi_units.specs.Runs.{Request, replies, units_after}
 use Rattle.oi_units.specs.declared.reply.UnitReply.{UnitReply}
 use Rattle.oi_units.specs.declared.unit.LogicalUnit.{LogicalUnit}

@@ -1,6 +1,6 @@
 -- One session in its full feature phase: what becomes of each PDU of its connection (RFC 7143, sections 4.2 and 11).
-use Rattle.std.specs.Prelude.{ℕ, Bool, true, false, ◌&&◌, ◌||◌, not, Option, Some, None, is_some, List, [], ◌∷◌, ◌++◌, drop, filter, length, slice_get, slice_set, take, bytes_eq, ◌==◌, nat_lt, if◌then◌else◌}
-use Rattle.std.specs.List.{list_any, position}
+use Rattle.std.specs.Prelude.{ℕ, Bool, true, false, ◌&&◌, ◌||◌, not, Option, Some, None, is_some, List, [], ◌∷◌, ◌++◌, drop, filter, length, take, bytes_eq, ◌==◌, nat_lt, if◌then◌else◌}
+use Rattle.std.specs.List.{list_any}
 use Rattle.oi_base.specs.Serials.{successor}
 use Rattle.oi_base.specs.declared.tag.Tag.{Tag}
 use Rattle.oi_pdu.specs.declared.codec.Pdu.{Pdu}
@@ -17,14 +17,14 @@ use Rattle.oi_target_login.specs.Texts.{text_pairs}
 use Rattle.oi_target_session.specs.Answers.{after_status, echo_pdu, logout_pdu, no_tag, r2t_pdu, response_pdu, task_response_pdu, text_pdu}
 use Rattle.oi_target_session.specs.Listings.{is_long, listing_text}
 use Rattle.oi_target_session.specs.Sequences.{data_pdus, usable}
-use Rattle.oi_target_session.specs.Tasks.{asking_by, grown, is_asking, is_stray, is_waiting, new_task, waits_as}
+use Rattle.oi_target_tasks.specs.Tasks.{asking_by, grown, is_asking, is_busy, is_stray, is_waiting, new_task, replaced, waiting_in, waits_as}
 use Rattle.oi_target_session.specs.declared.fed.Fed.{Fed}
 use Rattle.oi_target_session.specs.declared.fed.Fed.TheVariants.{Going, Closed}
 use Rattle.oi_target_session.specs.declared.limits.Limits.{Limits}
 use Rattle.oi_target_session.specs.declared.limits.Numbers.{Numbers}
 use Rattle.oi_target_session.specs.declared.reset.Reset.{Reset}
 use Rattle.oi_target_session.specs.declared.reset.Reset.TheVariants.{Unit as OfUnit, Whole}
-use Rattle.oi_target_session.specs.declared.task.Task.{Task}
+use Rattle.oi_target_tasks.specs.declared.task.Task.{Task}
 use Rattle.oi_units.specs.Units.{executed, unit_named}
 use Rattle.oi_units.specs.declared.reply.UnitReply.{UnitReply}
 use Rattle.oi_text.specs.declared.pairs.Pair.{Pair}
@@ -100,10 +100,6 @@ asking s t = asking_by s.transfer s.limits.max_burst t
 abbrev pub without_resets : Session → Session
 without_resets s = record s { resets = [] }
 
--- one of them has this tag
-abbrev pub is_busy : ℕ → List Task → Bool
-is_busy tag tasks = list_any (λ t. t.tag.0 == tag) tasks
-
 -- a command that cannot be: its tag is busy, it has immediate data without W, or too many of them
 abbrev pub is_unfit : Session → ScsiCommand → List ℕ → Bool
 is_unfit s h payload =
@@ -118,24 +114,24 @@ queued s t =
 abbrev pub commanded : Session → ScsiCommand → List ℕ → Handled
 commanded s h payload = if is_unfit s h payload then closes s else queued s (new_task h payload)
 
--- data came for the task at this place; where they end its R2T and are not complete, the target asks for more
-abbrev pub filled_at : Session → ℕ → Task → Handled
-filled_at s at t =
+-- the task that waits under its tag has now these data; where they end its R2T and are not complete, the target asks for more
+abbrev pub filled_by : Session → Task → Handled
+filled_by s t =
     if is_asking t
-    then goes (with_transfer s (slice_set s.tasks at (asking s t))) (r2t_pdu s.numbers (asking s t) ∷ [])
-    else goes (with_tasks s (slice_set s.tasks at t)) []
+    then goes (with_transfer s (replaced (asking s t) s.tasks)) (r2t_pdu s.numbers (asking s t) ∷ [])
+    else goes (with_tasks s (replaced t s.tasks)) []
 
-abbrev pub data_at : Session → DataOut → List ℕ → ℕ → Option Task → Handled
-data_at s h payload at None = goes s []
-data_at s h payload at (Some t) = if is_stray t h payload then closes s else filled_at s at (grown t payload)
+abbrev pub filled_from : Session → List ℕ → Option Task → Handled
+filled_from s payload None = goes s []
+filled_from s payload (Some t) = filled_by s (grown t payload)
 
 -- data for no task that waits are ignored
-abbrev pub data_to : Session → DataOut → List ℕ → Option ℕ → Handled
+abbrev pub data_to : Session → DataOut → List ℕ → Option Task → Handled
 data_to s h payload None = goes s []
-data_to s h payload (Some at) = data_at s h payload at (slice_get s.tasks at)
+data_to s h payload (Some t) = if is_stray t h payload then closes s else filled_by s (grown t payload)
 
 abbrev pub data_out : Session → DataOut → List ℕ → Handled
-data_out s h payload = data_to s h payload (position (waits_as h.tag.0) s.tasks)
+data_out s h payload = data_to s h payload (waiting_in h.tag.0 s.tasks)
 
 -- a NOP-Out with a tag comes back
 abbrev pub pinged : Session → NopOut → List ℕ → Handled

@@ -2,10 +2,10 @@ ghost use Rattle.std.specs.Prelude.{◌≡◌, ◌≤◌, ◌<◌, ◌^◌, IfOk
 ghost use Rattle.oi_target_session.specs.Answers.{echo_pdu, is_over, is_under, logout_pdu, r2t_pdu, residual_count, response_pdu, sense_segment, task_response_pdu, text_pdu};
 
 use crate::limits::Numbers;
-use crate::task::Task;
 use oi_base::{Blob, NoMemory, Tag};
 use oi_pdu::{Header, LogoutResponse, NopIn, Pdu, R2t, ScsiResponse, TaskResponse, TextResponse};
 use oi_recovery::Residual;
+use oi_target_tasks::Task;
 use oi_units::UnitReply;
 use std::alloc::Global;
 

@@ -12,7 +12,6 @@ mod parts;
 mod place;
 mod reset;
 mod session;
-mod task;
 mod text;
 
 pub use arrive::{receive, receive_all};
@@ -21,4 +20,3 @@ pub use laws::{execution_is_sequential, parts_come_to_the_whole};
 pub use limits::{Limits, Numbers};
 pub use reset::Reset;
 pub use session::Session;
-pub use task::Task;

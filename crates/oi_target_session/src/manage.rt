@@ -3,17 +3,16 @@ ghost use Rattle.std.specs.List.{list_any};
 ghost use Rattle.oi_target_login.specs.Grown.{IsGrown};
 ghost use Rattle.oi_target_session.specs.Answers.{bytes_of, task_response_pdu};
 ghost use Rattle.oi_target_session.specs.Sessions.{aborted, managed, reset_as, reset_by, responded, spared, with_reset, with_tasks};
-ghost use Rattle.oi_target_session.specs.Tasks.{waits_as};
+ghost use Rattle.oi_target_tasks.specs.Tasks.{waits_as};
 
 use crate::answers::task_response_pdu;
 use crate::fed::Fed;
 use crate::reset::Reset;
 use crate::session::Session;
-use crate::task::Task;
 use oi_base::{NoMemory, Tag};
 use oi_pdu::{TaskManagement, write_pdu};
+use oi_target_tasks::Tasks;
 use oi_units::Units;
-use std::collections::VecDeque;
 
 const ABORT_TASK: u8 = 1;
 
@@ -29,29 +28,11 @@ const NO_UNIT: u8 = 2;
 
 const NOT_SUPPORTED: u8 = 5;
 
-fn is_awaited(tasks: &VecDeque<Task>, tag: u32) -> bool
-    ensures { result ≡ list_any (waits_as tag) tasks.now.items }
-{
-    tasks.iter().any(|t| t.waits_as(tag))
-}
-
-fn drop_waiting(tasks: &mut VecDeque<Task>, tag: u32)
-    ensures { tasks.new.items ≡ filter (λ t. not (waits_as tag t)) tasks.old.items }
-{
-    tasks.retain(|t| !t.waits_as(tag));
-}
-
-fn drop_of_unit(tasks: &mut VecDeque<Task>, lun: [u8; 8])
-    ensures { tasks.new.items ≡ filter (λ t. not (bytes_eq t.command.lun lun)) tasks.old.items }
-{
-    tasks.retain(|t| t.command.lun != lun);
-}
-
-fn spare(tasks: &mut VecDeque<Task>, reset: Reset)
-    ensures { tasks.new.items ≡ spared reset tasks.old.items }
+fn spare(tasks: &mut Tasks, reset: Reset)
+    ensures { tasks.new ≡ spared reset tasks.old }
 {
     match reset {
-        Reset::Unit(lun) => drop_of_unit(tasks, lun),
+        Reset::Unit(lun) => tasks.drop_of_unit(lun),
         Reset::Whole => tasks.clear(),
     }
 }
@@ -83,8 +64,7 @@ impl Session {
         ensures kept { OnErr result (IsGrown out.old.items out.new.items) }
     {
         let tag = h.referenced.0;
-        if is_awaited(&self.tasks, tag) {
-            drop_waiting(&mut self.tasks, tag);
+        if self.tasks.drop_waiting(tag) {
             self.respond(h.tag, DONE, out)
         } else {
             self.respond(h.tag, NO_TASK, out)

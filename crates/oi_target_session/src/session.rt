@@ -1,11 +1,10 @@
 ghost use Rattle.std.specs.Prelude.{◌≡◌, ◌≤◌, ◌<◌, ◌+◌, ◌++◌, ◌^◌, Some, None, false, true, [], ◌∷◌, IfOk, IfNone, IfSome, OnErr, OnOk, MatchOption, length, slice_get, slice_index_or, take};
-ghost use Rattle.std.specs.List.{list_any, position};
 ghost use Rattle.oi_target_login.specs.Grown.{IsGrown};
 ghost use Rattle.oi_target_session.specs.Answers.{bytes_of};
 ghost use Rattle.oi_target_session.specs.Arrivals.{advanced};
 ghost use Rattle.oi_target_session.specs.Sequences.{AreLimits, data_pdus};
-ghost use Rattle.oi_target_session.specs.Sessions.{and_drained, asking, behind, commanded, counted, data_out, drained, handled, data_at, filled_at, handled_discovering, handled_normally, is_busy, is_unfit, logged_out, new_session, pinged, queued, reply_pdus, served, with_tasks, without_resets};
-ghost use Rattle.oi_target_session.specs.Tasks.{grown, is_stuck, is_waiting, no_task, waits_as};
+ghost use Rattle.oi_target_session.specs.Sessions.{and_drained, asking, behind, commanded, counted, data_out, drained, handled, filled_from, handled_discovering, handled_normally, is_unfit, logged_out, new_session, pinged, queued, reply_pdus, served, with_tasks, without_resets};
+ghost use Rattle.oi_target_tasks.specs.Tasks.{grown, is_busy, is_stuck, is_waiting, waiting_in};
 ghost use Rattle.oi_target_session.specs.declared.fed.Fed.TheVariants.{Going};
 ghost use Rattle.oi_units.specs.Units.{executed};
 
@@ -14,15 +13,14 @@ use crate::data::{Source, write_data};
 use crate::fed::Fed;
 use crate::limits::{Limits, Numbers};
 use crate::reset::Reset;
-use crate::task::Task;
 use oi_base::{Blob, NoMemory, Serial, Tag};
 use oi_pdu::{DataOut, Header, LogoutRequest, NopOut, Pdu, ScsiCommand, write_pdu};
 use oi_recovery::Residual;
 use oi_reserve::Nexus;
 use oi_sendtargets::Found;
+use oi_target_tasks::{Task, Tasks};
 use oi_units::{UnitReply, Units};
 use std::alloc::Global;
-use std::collections::VecDeque;
 use std::marker::Model;
 use std::mem;
 
@@ -35,7 +33,7 @@ pub struct Session {
     pub(crate) limits: Limits,
     pub(crate) numbers: Numbers,
     transfer: u32,
-    pub(crate) tasks: VecDeque<Task>,
+    pub(crate) tasks: Tasks,
     pub(crate) resets: Vec<Reset>,
     pub(crate) text: Blob,
     pub(crate) left: Blob,
@@ -53,7 +51,7 @@ impl Model for Session {
       limits = s.limits;
       numbers = s.numbers;
       transfer = s.transfer;
-      tasks = s.tasks.items;
+      tasks = s.tasks;
       resets = s.resets.items;
       text = s.text;
       left = s.left;
@@ -80,7 +78,7 @@ impl Session {
             limits: limits.usable(),
             numbers,
             transfer: 1,
-            tasks: VecDeque::new(alloc),
+            tasks: Tasks::new(alloc),
             resets: Vec::new(alloc),
             text: Blob::new(alloc),
             left: Blob::new(alloc),
@@ -123,22 +121,17 @@ impl Session {
         self.numbers.exp = self.numbers.exp.next();
     }
 
-    fn is_busy(&self, tag: u32) -> bool
-        ensures { result ≡ is_busy tag self.now.tasks }
-    {
-        self.tasks.iter().any(|t| t.tag.0 == tag)
-    }
-
     fn is_unfit(&self, h: ScsiCommand, payload: &[u8]) -> bool
         ensures { result ≡ is_unfit self.now h payload.now }
     {
-        self.is_busy(h.tag.0)
+        self.tasks.is_busy(h.tag.0)
             || (0 < payload.len() && !h.writes)
             || (h.length as usize) < payload.len()
             || (self.limits.first_burst as usize) < payload.len()
     }
 
     fn queue(&mut self, task: Task, out: &mut Vec<u8>) -> Result<(), NoMemory>
+        requires { is_busy task.tag.0 self.old.tasks ≡ false }
         ensures session { OnOk result (self.new ≡ (queued self.old task).session) }
         ensures out { OnOk result (out.new.items ≡ out.old.items ++ bytes_of (queued self.old task).sent) }
         ensures kept { OnErr result (IsGrown out.old.items out.new.items) }
@@ -150,7 +143,7 @@ impl Session {
             write_pdu(&pdu, out)?;
             self.transfer = self.transfer.wrapping_add(1);
         }
-        self.tasks.push_back(task)?;
+        self.tasks.push(task)?;
         Ok(())
     }
 
@@ -193,45 +186,42 @@ impl Session {
         Ok(Fed::Closed)
     }
 
-    fn waiting_as(&self, tag: u32) -> Option<usize>
-        ensures { result ≡ position (waits_as tag) self.now.tasks }
-    {
-        self.tasks.iter().position(|t| t.waits_as(tag))
-    }
-
     fn data_out(&mut self, h: DataOut, payload: &[u8], out: &mut Vec<u8>) -> Result<Fed, NoMemory>
         ensures session { OnOk result (self.new ≡ (data_out self.old h payload.now).session) }
         ensures out { OnOk result (out.new.items ≡ out.old.items ++ bytes_of (data_out self.old h payload.now).sent) }
         ensures fed { IfOk result (λ f. f ≡ (data_out self.old h payload.now).fed) }
         ensures kept { OnErr result (IsGrown out.old.items out.new.items) }
     {
-        let Some(at) = self.waiting_as(h.tag.0) else {
+        let Some(task) = self.tasks.waiting(h.tag.0) else {
             return Ok(Fed::Going);
         };
-        if at >= self.tasks.len() {
-            return Ok(Fed::Going);
-        }
-        if self.tasks[at].is_stray(h, payload) {
+        if task.is_stray(h, payload) {
             return Ok(Fed::Closed);
         }
-        self.fill_at(at, payload, out)?;
+        self.fill(h.tag.0, payload, out)?;
         Ok(Fed::Going)
     }
 
-    // The task at this place takes its data.
-    fn fill_at(&mut self, at: usize, payload: &[u8], out: &mut Vec<u8>) -> Result<(), NoMemory>
-        requires { at < length self.old.tasks }
-        ensures session { OnOk result (self.new ≡ (filled_at self.old at (grown (slice_index_or self.old.tasks at no_task) payload.now)).session) }
-        ensures out { OnOk result (out.new.items ≡ out.old.items ++ bytes_of (filled_at self.old at (grown (slice_index_or self.old.tasks at no_task) payload.now)).sent) }
-        ensures fed { (filled_at self.old at (grown (slice_index_or self.old.tasks at no_task) payload.now)).fed ≡ Going }
+    // The task that waits under this tag takes its data.
+    fn fill(&mut self, tag: u32, payload: &[u8], out: &mut Vec<u8>) -> Result<(), NoMemory>
+        ensures session { OnOk result (self.new ≡ (filled_from self.old payload.now (waiting_in tag self.old.tasks)).session) }
+        ensures out { OnOk result (out.new.items ≡ out.old.items ++ bytes_of (filled_from self.old payload.now (waiting_in tag self.old.tasks)).sent) }
+        ensures fed { (filled_from self.old payload.now (waiting_in tag self.old.tasks)).fed ≡ Going }
         ensures kept { OnErr result (IsGrown out.old.items out.new.items) }
     {
-        if self.tasks[at].fill(self.alloc, payload, self.transfer, self.limits.max_burst)? {
-            let task = &self.tasks[at];
-            let pdu = r2t_pdu(self.alloc, self.numbers, task, task.end);
-            write_pdu(&pdu, out)?;
-            self.transfer = self.transfer.wrapping_add(1);
+        let burst = self.limits.max_burst;
+        let asked = self
+            .tasks
+            .fill(self.alloc, tag, payload, self.transfer, burst)?;
+        if !asked {
+            return Ok(());
         }
+        let Some(task) = self.tasks.waiting(tag) else {
+            return Ok(());
+        };
+        let pdu = r2t_pdu(self.alloc, self.numbers, task, task.end);
+        write_pdu(&pdu, out)?;
+        self.transfer = self.transfer.wrapping_add(1);
         Ok(())
     }
 
@@ -301,10 +291,7 @@ impl Session {
         ensures stuck { IfNone result (is_stuck self.old.tasks ≡ true) }
         ensures some { IfSome result (λ t. (is_waiting t ≡ false) × (self.old.tasks ≡ t ∷ self.new.tasks) × (self.new ≡ with_tasks self.old self.new.tasks)) }
     {
-        match self.tasks.front() {
-            Some(task) if !task.is_waiting() => self.tasks.pop_front(),
-            _ => None,
-        }
+        self.tasks.next_ready()
     }
 
     /// Executes commands in order, up to the first one whose data are not complete.

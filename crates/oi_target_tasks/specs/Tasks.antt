@@ -1,9 +1,10 @@
 -- Commands that came and were not executed yet.
-use Rattle.std.specs.Prelude.{ℕ, ◌+◌, Bool, true, false, not, ◌&&◌, ◌||◌, List, [], ◌∷◌, ◌++◌, length, min, nat_lt, ◌==◌}
+use Rattle.std.specs.Prelude.{ℕ, ◌+◌, Bool, true, false, not, ◌&&◌, ◌||◌, Option, Some, None, List, [], ◌∷◌, ◌++◌, length, min, nat_lt, ◌==◌, if◌then◌else◌}
+use Rattle.std.specs.List.{find, list_any}
 use Rattle.oi_base.specs.Serials.{successor}
 use Rattle.oi_pdu.specs.declared.header.DataOut.{DataOut}
 use Rattle.oi_pdu.specs.declared.header.ScsiCommand.{ScsiCommand}
-use Rattle.oi_target_session.specs.declared.task.Task.{Task}
+use Rattle.oi_target_tasks.specs.declared.task.Task.{Task}
 use Rattle.oi_units.specs.declared.command.UnitCommand.{UnitCommand}
 
 -- the command as the units take it
@@ -60,3 +61,39 @@ is_asking t = length t.payload == t.end && is_waiting t
 abbrev pub is_stuck : List Task → Bool
 is_stuck [] = true
 is_stuck (t ∷ ts) = is_waiting t
+
+-- it has this tag
+abbrev pub has_tag : ℕ → Task → Bool
+has_tag tag t = t.tag.0 == tag
+
+-- one of them has this tag
+abbrev pub is_busy : ℕ → List Task → Bool
+is_busy tag tasks = list_any (has_tag tag) tasks
+
+-- the one that waits for data under this tag
+abbrev pub waiting_in : ℕ → List Task → Option Task
+waiting_in tag tasks = find (waits_as tag) tasks
+
+-- a task in the place of the one that waits for data under its tag
+abbrev pub replaced : Task → List Task → List Task
+replaced t [] = []
+replaced t (x ∷ xs) = if waits_as t.tag.0 x then t ∷ xs else x ∷ replaced t xs
+
+-- with more data; where its R2T is answered and more is missing, it asks for the next part
+abbrev pub filled : ℕ → ℕ → List ℕ → Task → Task
+filled transfer burst payload t = if is_asking (grown t payload) then asking_by transfer burst (grown t payload) else grown t payload
+
+-- data come for the one that was found
+abbrev pub filled_in : ℕ → ℕ → List ℕ → Option Task → List Task → List Task
+filled_in transfer burst payload None tasks = tasks
+filled_in transfer burst payload (Some t) tasks = replaced (filled transfer burst payload t) tasks
+
+-- it asks for more
+abbrev pub asks_for : List ℕ → Option Task → Bool
+asks_for payload None = false
+asks_for payload (Some t) = is_asking (grown t payload)
+
+-- it is then
+abbrev pub asked_again : ℕ → ℕ → List ℕ → Option Task → Option Task
+asked_again transfer burst payload None = None
+asked_again transfer burst payload (Some t) = Some (asking_by transfer burst (grown t payload))

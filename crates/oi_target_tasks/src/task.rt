@@ -1,5 +1,5 @@
-ghost use Rattle.std.specs.Prelude.{◌≡◌, ◌≤◌, IfOk, OnOk, length, true, if◌then◌else◌};
-ghost use Rattle.oi_target_session.specs.Tasks.{asking_by, grown, is_asking, is_stray, is_waiting, new_task, waits_as};
+ghost use Rattle.std.specs.Prelude.{◌≡◌, ◌≤◌, IfOk, OnErr, OnOk, length, true, if◌then◌else◌};
+ghost use Rattle.oi_target_tasks.specs.Tasks.{asking_by, grown, is_asking, is_stray, is_waiting, new_task, waits_as};
 
 use oi_base::{Blob, NoMemory, Tag};
 use oi_pdu::{DataOut, ScsiCommand};
@@ -88,11 +88,13 @@ impl Task {
 
     /// Takes more data.
     pub fn grow(&mut self, alloc: Global, payload: &[u8]) -> Result<(), NoMemory>
-        ensures { OnOk result (self.new ≡ grown self.old payload.now) }
+        ensures ok { OnOk result (self.new ≡ grown self.old payload.now) }
+        ensures err { OnErr result (self.new ≡ self.old) }
     {
         let mut joined = mem::replace(&mut self.payload, Blob::new(alloc)).into_vec();
-        joined.extend_from_slice(payload)?;
+        let extended = joined.extend_from_slice(payload);
         self.payload = Blob::from_vec(joined);
+        extended?;
         Ok(())
     }
 
@@ -107,6 +109,7 @@ impl Task {
         ensures asked { IfOk result (λ asked. asked ≡ is_asking (grown self.old payload.now)) }
         ensures task { IfOk result (λ asked. self.new ≡ (if asked then asking_by transfer burst (grown self.old payload.now) else grown self.old payload.now)) }
         ensures end { IfOk result (λ asked. asked ≡ true → length self.new.payload ≤ self.new.end) }
+        ensures err { OnErr result (self.new ≡ self.old) }
     {
         self.grow(alloc, payload)?;
         if !self.is_asking() {
