@@ -3,7 +3,7 @@ ghost use Rattle.oi_history.specs.Configs.{IsValidConfig};
 ghost use Rattle.oi_history.specs.Ledgers.{CanStep};
 ghost use Rattle.oi_history.specs.Meanings.{Meanings};
 
-use crate::trace_tests::{at, judge};
+use crate::trace_tests::judge;
 use oi_base::{Blob, Params, Serial, Tag};
 use oi_history::*;
 use oi_pdu::{Header, Pdu, TaskResponse};
@@ -156,13 +156,28 @@ fn loses(
     requires { (negsuc 0 ≤ℤ replacement) × (replacement ≤ℤ pos 86400) }
 {
     let mut ledger = Ledger::new(alloc, config(replacement))?;
-    ledger.step(&at(0, login()))?;
-    ledger.step(&at(1, Event::Tick { now: 1000 }))?;
-    ledger.step(&at(2, cut()))?;
+    ledger.step(&Numbered {
+        number: 0,
+        event: login(),
+    })?;
+    ledger.step(&Numbered {
+        number: 1,
+        event: Event::Tick { now: 1000 },
+    })?;
+    ledger.step(&Numbered {
+        number: 2,
+        event: cut(),
+    })?;
     assert_eq!(rt; ledger.phase(), lost);
-    ledger.step(&at(3, Event::Tick { now: 120_999 }))?;
+    ledger.step(&Numbered {
+        number: 3,
+        event: Event::Tick { now: 120_999 },
+    })?;
     assert_eq!(rt; ledger.phase(), late);
-    ledger.step(&at(4, Event::Tick { now: 121_000 }))?;
+    ledger.step(&Numbered {
+        number: 4,
+        event: Event::Tick { now: 121_000 },
+    })?;
     assert_eq!(rt; ledger.phase(), over);
     Ok(())
 }
@@ -182,13 +197,28 @@ fn replacement_time(rt: HostRuntime) -> Result<(), Fail> {
 #[test]
 fn requests_without_a_connection(rt: HostRuntime) -> Result<(), Fail> {
     let mut ledger = Ledger::new(rt.alloc(), config(120))?;
-    ledger.step(&at(0, submit(0)))?;
-    ledger.step(&at(1, login()))?;
-    ledger.step(&at(2, cut()))?;
+    ledger.step(&Numbered {
+        number: 0,
+        event: submit(0),
+    })?;
+    ledger.step(&Numbered {
+        number: 1,
+        event: login(),
+    })?;
+    ledger.step(&Numbered {
+        number: 2,
+        event: cut(),
+    })?;
     assert_eq!(rt; ledger.phase(), Phase::Recovering { since: 0 });
-    ledger.step(&at(3, Event::Tick { now: 120_000 }))?;
+    ledger.step(&Numbered {
+        number: 3,
+        event: Event::Tick { now: 120_000 },
+    })?;
     assert_eq!(rt; ledger.phase(), Phase::FailFast { since: 0 });
-    ledger.step(&at(4, submit(1)))?;
+    ledger.step(&Numbered {
+        number: 4,
+        event: submit(1),
+    })?;
     assert!(rt; ledger.task(0).is_some_and(|t| t.fate == failed(3)));
     assert!(rt; ledger.task(1).is_some_and(|t| t.fate == failed(4)));
     Ok(())

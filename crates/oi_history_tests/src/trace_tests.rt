@@ -265,10 +265,7 @@ fn rules_at_the_end(rt: HostRuntime) -> Result<(), Fail> {
     Ok(())
 }
 
-pub(crate) fn at(number: u64, event: Event) -> Numbered
-    ensures number { result.number ≡ number }
-    ensures event { result.event ≡ event }
-{
+fn at(number: u64, event: Event) -> Numbered {
     Numbered { number, event }
 }
 
