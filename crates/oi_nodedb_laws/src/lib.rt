@@ -1,0 +1,6 @@
+//! Laws of calls of the database, one after another: what stands in the store and in the value behind them.
+#![tactic(auto)]
+
+mod laws;
+
+pub use laws::stores_follow_courses;
