@@ -1,5 +1,5 @@
 -- The records stay in order and well formed.
-use Rattle.std.proofs.Common.{◌≡◌, ◌∙◌, inl, inr, ℕ, Bool, true, false, cond, not, List, [], ◌∷◌, ◌++◌, Option, None, Result, Ok, Err, refl, sym, ap, subst, filter, bytes_eq}
+use Rattle.std.proofs.Common.{◌≡◌, inl, inr, ℕ, Bool, true, false, cond, not, List, [], ◌∷◌, ◌++◌, Option, None, Result, Ok, Err, refl, sym, subst, filter}
 use Rattle.std.specs.List.{All}
 use Rattle.std.proofs.lemmas.List.{append-nil}
 use Rattle.std.proofs.lemmas.List.Elements.{All-cons, All-head, All-tail}
@@ -18,7 +18,7 @@ use Rattle.oi_nodedb.specs.declared.error.DbError.{DbError}
 use Rattle.oi_nodedb.specs.declared.error.DbError.TheVariants.{BadName, BadValue, BadRecord, NoObjects, InUse, StoreFault, Memory}
 use Rattle.oi_nodedb.specs.declared.filter.Filter.{Filter}
 use Rattle.oi_nodedb.specs.Answers.{Adds, Deletes, IsSetting, StopsDelete, StopsUpdate, Updates}
-use Rattle.oi_nodedb.specs.Databases.{Ascends, fresh, left, updated, with_record, with_value}
+use Rattle.oi_nodedb.specs.Databases.{fresh, left, updated, with_record, with_value}
 use Rattle.oi_nodedb.specs.Filters.{matches}
 use Rattle.oi_nodedb.proofs.Loading.{All-with_record}
 use Rattle.oi_nodedb.proofs.Marks.{marked_pairs}

@@ -1,65 +1,25 @@
 -- Records that are those of a store stay so.
-use Rattle.std.proofs.Common.{◌≡◌, ◌∙◌, ◌⊎◌, inl, inr, ℕ, Bool, true, false, true≢false, cond, List, [], ◌∷◌, Option, Some, None, is_some, unwrap_or, Ok, refl, sym, ap, subst, get_or, arith, bytes_eq}
-use Rattle.std.specs.List.{All, Contains}
+use Rattle.std.proofs.Common.{◌≡◌, ◌∙◌, ℕ, true≢false, List, [], Option, Some, None, is_some, unwrap_or, Ok, refl, sym, ap, subst}
 use Rattle.std.specs.Option.{option_map}
-use Rattle.std.proofs.lemmas.List.Elements.{All-contains, Contains-get_or}
-use Rattle.std.proofs.lemmas.Slice.Eq.{bytes_eq-Decides}
+use Rattle.std.proofs.lemmas.List.Elements.{All-contains}
 use Rattle.oi_outside.specs.Records.{Records, lookup}
 use Rattle.oi_outside.specs.Stores.{told_at}
 use Rattle.oi_settings.specs.Keys.{path_text}
 use Rattle.oi_settings.specs.Texts.{IsNode, IsStored, Node, text_of}
 use Rattle.oi_settings.proofs.Stops.{node_stored}
-use Rattle.oi_nodedb.specs.Loads.{IsLoaded, IsNodePath, IsRecordAt, Loads}
-use Rattle.oi_nodedb.proofs.Loading.{contains_cases, contains_first, contains_rest}
+use Rattle.oi_nodedb.specs.Loads.{IsLoaded, IsNodePath, Loads}
 use Rattle.oi_nodedb_laws.specs.Courses.{Call, Course, IsDatabase, NoFaults}
 use Rattle.oi_nodedb_laws.specs.Laws.{Has, IsSure, Tells}
 use Rattle.oi_nodedb_laws.specs.Touches.{Touch, gone, holds, record_on, touched_last, unsure, untouched}
-use Rattle.oi_nodedb_laws.proofs.Apart.{AreApart, database_apart, same_path}
+use Rattle.oi_nodedb_laws.proofs.Apart.{database_apart}
 use Rattle.oi_nodedb_laws.proofs.Keeping.{course_stays}
+use Rattle.oi_nodedb_laws.proofs.Places.{each_of, found_there, same_node, there_found}
 use Rattle.oi_nodedb_laws.proofs.Stores.{as_told, store_follows}
 use Rattle.oi_nodedb_laws.proofs.Sure.{sure_without_faults}
 use Rattle.oi_nodedb_laws.proofs.Values.{value_follows}
 
-none_in : (x : Node) → Contains [] x → ⊥
-none_in x (k, small, is) = omega (arith, small)
-
-each_of : (P : Node → Type 0) (xs : List Node) → ((x : Node) → Contains xs x → P x) → All P xs
-each_of P xs holds_of k d small = holds_of (get_or xs k d) (Contains-get_or xs k d small)
-
-same_node : (a b : Node) → ◌≡◌ {A = Option Node} (Some a) (Some b) → a ≡ b
-same_node a b e = ap (λ (o : Option Node). unwrap_or o a) e
-
 same_text : (v w : List ℕ) → ◌≡◌ {A = Option (List ℕ)} (Some v) (Some w) → v ≡ w
 same_text v w e = ap (λ (o : Option (List ℕ)). unwrap_or o v) e
-
--- ---- the record of a path
-
-found_there : (q : List ℕ) (ns : List Node) (n : Node) → record_on q ns ≡ Some n → Contains ns n × (q ≡ path_text n.key)
-found_there q [] n e = absurd (true≢false (sym (ap is_some e)))
-found_there q (m ∷ ms) n e = go (bytes_eq q (path_text m.key)) refl e (found_there q ms n)
-  where
-    go : (b : Bool) → bytes_eq q (path_text m.key) ≡ b → cond b (Some m) (record_on q ms) ≡ Some n → (record_on q ms ≡ Some n → Contains ms n × (q ≡ path_text n.key))
-        → Contains (m ∷ ms) n × (q ≡ path_text n.key)
-    go true here is more =
-        let same : m ≡ n = same_node m n is in
-        (subst (λ (x : Node). Contains (m ∷ ms) x) same (contains_first m ms), same_path q (path_text m.key) here ∙ ap (λ (x : Node). path_text x.key) same)
-    go false here is more = let found = more is in (contains_rest m ms n found.0, found.1)
-
-there_found : (ns : List Node) (n : Node) → AreApart ns → Contains ns n → record_on (path_text n.key) ns ≡ Some n
-there_found [] n apart c = absurd (none_in n c)
-there_found (m ∷ ms) n apart c = elim (contains_cases m ms n c) [
-  | inl same ↦
-      ap (λ (b : Bool). cond b (Some m) (record_on (path_text n.key) ms)) ((bytes_eq-Decides (path_text n.key) (path_text m.key)).1 (ap (λ (x : Node). path_text x.key) (sym same)))
-      ∙ ap (λ (x : Node). Some x) same
-  | inr later ↦ go (bytes_eq (path_text n.key) (path_text m.key)) refl (there_found ms n apart.1 later)
-]
-  where
-    go : (b : Bool) → bytes_eq (path_text n.key) (path_text m.key) ≡ b → record_on (path_text n.key) ms ≡ Some n → cond b (Some m) (record_on (path_text n.key) ms) ≡ Some n
-    go true here more =
-        let same : path_text n.key ≡ path_text m.key = same_path (path_text n.key) (path_text m.key) here in
-        let bad : ◌≡◌ {A = Option Node} (Some n) None = sym more ∙ ap (λ (p : List ℕ). record_on p ms) same ∙ apart.0 in
-        absurd (true≢false (ap is_some bad))
-    go false here more = more
 
 -- ---- store and records agree at a path
 

@@ -13,8 +13,8 @@ use Rattle.oi_settings.specs.Texts.{Node, text_of}
 use Rattle.oi_nodedb.specs.declared.error.DbError.TheVariants.{BadName, BadValue, BadRecord, NoObjects, InUse, StoreFault, Memory}
 use Rattle.oi_nodedb.specs.declared.error.DbError.{DbError}
 use Rattle.oi_nodedb.specs.declared.filter.Filter.{Filter}
-use Rattle.oi_nodedb.specs.Answers.{Adds, Deletes, StopsDelete, StopsUpdate, Updates}
-use Rattle.oi_nodedb.specs.Databases.{changed, fresh, told_removed, told_texts, with_value}
+use Rattle.oi_nodedb.specs.Answers.{Adds, Deletes, Updates}
+use Rattle.oi_nodedb.specs.Databases.{changed, fresh, told_removed, told_texts}
 use Rattle.oi_nodedb.specs.Filters.{matching}
 use Rattle.oi_nodedb_laws.specs.Courses.{Call, Course, IsDatabase, Leaves, marked, new_record, new_marked, update, delete}
 use Rattle.oi_nodedb_laws.specs.Laws.{Tells}
@@ -46,7 +46,7 @@ without_other o p q e = Removes-others (Err StoreFailed) p q o (told_without o p
 
 -- ---- texts that were written or taken away
 
-texts_at : (q : List ℕ) (ns : List Node) (o : Option Records) → AreApart ns → Tells (if_written (record_on q ns) untouched) (told_at o q) (told_at (told_texts o ns) q)
+pub texts_at : (q : List ℕ) (ns : List Node) (o : Option Records) → AreApart ns → Tells (if_written (record_on q ns) untouched) (told_at o q) (told_at (told_texts o ns) q)
 texts_at q [] o apart = refl
 texts_at q (n ∷ ns) o apart = go (bytes_eq q (path_text n.key)) refl (texts_at q ns (told_with o (path_text n.key) (text_of n.pairs)) apart.1)
   where
@@ -64,7 +64,7 @@ texts_at q (n ∷ ns) o apart = go (bytes_eq q (path_text n.key)) refl (texts_at
     go false e more =
         subst (λ (t : Told). Tells (if_written (record_on q ns) untouched) t (told_at (told_texts next ns) q)) (with_other o (path_text n.key) (text_of n.pairs) q e) more
 
-removed_at : (q : List ℕ) (ns : List Node) (o : Option Records) → AreApart ns → Tells (if_taken (record_on q ns) untouched) (told_at o q) (told_at (told_removed o ns) q)
+pub removed_at : (q : List ℕ) (ns : List Node) (o : Option Records) → AreApart ns → Tells (if_taken (record_on q ns) untouched) (told_at o q) (told_at (told_removed o ns) q)
 removed_at q [] o apart = refl
 removed_at q (n ∷ ns) o apart = go (bytes_eq q (path_text n.key)) refl (removed_at q ns (told_without o (path_text n.key)) apart.1)
   where

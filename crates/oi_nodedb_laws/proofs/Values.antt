@@ -1,6 +1,5 @@
 -- What the value has behind calls.
 use Rattle.std.proofs.Common.{◌≡◌, ◌∙◌, inl, inr, ℕ, Bool, true, false, true≢false, cond, not, List, [], ◌∷◌, ◌++◌, Option, Some, None, Result, Ok, Err, refl, sym, ap, subst, map, bytes_eq}
-use Rattle.std.specs.List.{All}
 use Rattle.std.specs.Option.{option_map}
 use Rattle.std.specs.Ordering.{is_lt}
 use Rattle.std.proofs.lemmas.List.{append-nil}
@@ -8,8 +7,8 @@ use Rattle.oi_names.specs.declared.session_key.SessionInfo.{SessionInfo}
 use Rattle.oi_outside.specs.Records.{Records}
 use Rattle.oi_outside.specs.declared.store_error.StoreError.{StoreError}
 use Rattle.oi_outside.specs.declared.store_error.StoreError.TheVariants.{Failed as StoreFailed, Memory as StoreMemory}
-use Rattle.oi_settings.specs.Keys.{IsKey, Key, key_cmp, path_text}
-use Rattle.oi_settings.specs.Texts.{IsNode, Node}
+use Rattle.oi_settings.specs.Keys.{IsKey, key_cmp, path_text}
+use Rattle.oi_settings.specs.Texts.{Node}
 use Rattle.oi_nodedb.specs.declared.error.DbError.{DbError}
 use Rattle.oi_nodedb.specs.declared.error.DbError.TheVariants.{BadName, BadValue, BadRecord, NoObjects, InUse, StoreFault, Memory}
 use Rattle.oi_nodedb.specs.declared.filter.Filter.{Filter}
@@ -18,7 +17,7 @@ use Rattle.oi_nodedb.specs.Databases.{changed, fresh, left, updated, with_record
 use Rattle.oi_nodedb.specs.Filters.{matches, matching}
 use Rattle.oi_nodedb_laws.specs.Courses.{Call, Course, IsAllowed, IsDatabase, Leaves, marked, new_record, new_marked, update, delete}
 use Rattle.oi_nodedb_laws.specs.Laws.{Has}
-use Rattle.oi_nodedb_laws.specs.Touches.{Change, Touch, added, change_of, delete_took, gone, holds, if_failed, if_taken, if_written, record_on, took, took_to, touched, touched_last, unsure, untouched, update_wrote, wrote, wrote_to}
+use Rattle.oi_nodedb_laws.specs.Touches.{Change, Touch, added, change_of, delete_took, gone, holds, if_failed, if_taken, if_written, record_on, took, took_to, touched, touched_last, untouched, update_wrote, wrote, wrote_to}
 use Rattle.oi_nodedb_laws.proofs.Apart.{AreApart, database_apart, none_in_front, none_kept, none_matching, none_on, on_with, same_path}
 use Rattle.oi_nodedb_laws.proofs.Keeping.{course_stays}
 
@@ -160,7 +159,7 @@ has_added q node (Err (BadRecord p l)) old new was is valid base adds = absurd a
 has_added q node (Err NoObjects) old new was is valid base adds = absurd adds
 has_added q node (Err (InUse s)) old new was is valid base adds = absurd adds
 
-update_stopped : (q : List ℕ) (f : Filter) (name value : List ℕ) (e : StoreError) (old new : List Node) (was is : Option Records) → AreApart old
+pub update_stopped : (q : List ℕ) (f : Filter) (name value : List ℕ) (e : StoreError) (old new : List Node) (was is : Option Records) → AreApart old
     → (stops : StopsUpdate f name value e old new was is) → Has (if_written (record_on q (changed f name value stops.front)) untouched) (record_on q old) (record_on q new)
 update_stopped q f name value e old new was is apart stops =
     update_on f name value q stops.front (stops.node ∷ stops.behind) old new apart stops.whole stops.value_is
@@ -180,7 +179,7 @@ has_updated q f name value (Err NoObjects) old new was is apart updates = same_o
 has_updated q f name value (Err (BadRecord p l)) old new was is apart updates = absurd updates
 has_updated q f name value (Err (InUse s)) old new was is apart updates = absurd updates
 
-delete_stopped : (q : List ℕ) (f : Filter) (e : StoreError) (old new : List Node) (was is : Option Records) → AreApart old
+pub delete_stopped : (q : List ℕ) (f : Filter) (e : StoreError) (old new : List Node) (was is : Option Records) → AreApart old
     → (stops : StopsDelete f e old new was is) → Has (if_taken (record_on q (matching f stops.front)) untouched) (record_on q old) (record_on q new)
 delete_stopped q f e old new was is apart stops = delete_on f q stops.front (stops.node ∷ stops.behind) old new apart stops.whole stops.value_is
 

@@ -1,5 +1,5 @@
 -- Calls of the database in a row.
-use Rattle.std.specs.Prelude.{◌≡◌, ◌++◌, ℕ, Bool, true, false, List, [], ◌∷◌, Option, None, Result, Ok, Err}
+use Rattle.std.specs.Prelude.{◌≡◌, ◌++◌, ℕ, Bool, true, false, List, [], ◌∷◌, Option, None, Result, Err}
 use Rattle.std.specs.List.{All}
 use Rattle.oi_names.specs.declared.session_key.SessionInfo.{SessionInfo}
 use Rattle.oi_outside.specs.Records.{Records}
@@ -17,7 +17,7 @@ pub record IsDatabase (nodes : List Node) : Type 0 where
   pub ascends : Ascends nodes
   pub each : All (λ n. IsNode n) nodes
 
--- a call that may change records: what it was given, and what it answered
+-- a call that may change records: what it was given, and what it answered; an update has its name and value as bytes
 pub data Call : Type 0 where
   new_record : Key → Result Bool DbError → Call
   new_marked : Key → List ℕ → List ℕ → Result Bool DbError → Call

@@ -28,7 +28,7 @@ added node (Ok true) old new was is adds = wrote (node ∷ [])
 added node (Err StoreFault) old new was is adds = wrote_to [] node
 added node other old new was is adds = wrote []
 
--- an update writes each record that it means, up to the one at which it stopped
+-- an update writes each record that it means; where it stopped, those before that one, of which want of memory leaves the text alone
 abbrev pub update_wrote : (f : Filter) (name value : List ℕ) (answer : Result ℕ DbError) (old new : List Node) (was is : Option Records)
     → Updates f name value answer old new was is → Change
 update_wrote f name value (Ok n) old new was is updates = wrote (changed f name value old)
@@ -37,7 +37,7 @@ update_wrote f name value (Err Memory) old new was is (inl same) = wrote []
 update_wrote f name value (Err Memory) old new was is (inr stops) = wrote (changed f name value stops.1.front)
 update_wrote f name value other old new was is updates = wrote []
 
--- a deletion takes each record that it means away, up to the one at which it stopped
+-- a deletion takes each record that it means away; where it stopped, those before that one, of which want of memory leaves the text alone
 abbrev pub delete_took : (f : Filter) (living : List SessionInfo) (answer : Result ℕ DbError) (old new : List Node) (was is : Option Records)
     → Deletes f living answer old new was is → Change
 delete_took f living (Ok n) old new was is deletes = took (matching f old)
@@ -46,6 +46,7 @@ delete_took f living (Err Memory) old new was is (inl same) = took []
 delete_took f living (Err Memory) old new was is (inr stops) = took (matching f stops.1.front)
 delete_took f living other old new was is deletes = took []
 
+-- what the call changed as it was made
 abbrev pub change_of : (c : Call) (old new : List Node) (was is : Option Records) → Leaves c old new was is → Change
 change_of (new_record key answer) old new was is leaves = added (fresh key) answer old new was is leaves
 change_of (new_marked key name value answer) old new was is leaves = added (marked key name value) answer old new was is leaves

@@ -3,4 +3,4 @@
 
 mod laws;
 
-pub use laws::stores_follow_courses;
+pub use laws::{calls_change_what_they_mean, stores_follow_courses};
