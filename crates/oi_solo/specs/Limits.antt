@@ -9,12 +9,15 @@ use Rattle.oi_history.specs.declared.event.Event.{Event}
 use Rattle.oi_history.specs.declared.event.Event.TheVariants.{Submit, PduIn}
 use Rattle.oi_history.specs.declared.event.Numbered.{Numbered}
 use Rattle.oi_scsi.specs.declared.request.Kind.{Kind}
-use Rattle.oi_scsi.specs.declared.request.Kind.TheVariants.{Write}
+use Rattle.oi_scsi.specs.Requests.{reserve_out_length}
+use Rattle.oi_scsi.specs.declared.request.Kind.TheVariants.{ReserveOut, Write}
 use Rattle.oi_solo.specs.Sessions.{Session, entered_all}
 use Rattle.oi_solo.specs.declared.load.Load.{Load}
 
+-- the bytes that a request writes and that are kept with it
 abbrev pub payload_of : Kind → ℕ
 payload_of (Write lba blocks payload) = length payload
+payload_of (ReserveOut action form key new_key) = reserve_out_length
 payload_of k = 0
 
 abbrev pub kept_bytes : Event → ℕ

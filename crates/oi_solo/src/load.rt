@@ -21,6 +21,7 @@ fn payload_of(kind: &Kind) -> usize
 {
     match kind {
         Kind::Write { payload, .. } => payload.as_slice().len(),
+        Kind::ReserveOut { .. } => kind.length() as usize,
         _ => 0,
     }
 }

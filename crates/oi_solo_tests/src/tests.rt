@@ -353,3 +353,37 @@ fn submissions_are_bounded(rt: HostRuntime) -> Result<(), Fail> {
     };
     fill(&rt, &mut Solo::new(rt.alloc(), config)?)
 }
+
+fn registration() -> Request
+    ensures { IsValid result.kind }
+{
+    Request {
+        lun: 0,
+        kind: Kind::ReserveOut {
+            action: 0,
+            form: 1,
+            key: 0,
+            new_key: 1,
+        },
+    }
+}
+
+// A PERSISTENT RESERVE OUT keeps its 24 bytes: 170 of them fit into 4,096 bytes, one more does not.
+#[test]
+fn reservations_are_kept(rt: HostRuntime) -> Result<(), Fail> {
+    let config = SessionConfig {
+        steps: 2048,
+        kept: 4096,
+        ..config()
+    };
+    let mut session = Solo::new(rt.alloc(), config)?;
+    for _i in 0..170u32 {
+        session.submit(registration())?;
+    }
+    let spent = SubmitRefused::Spent {
+        steps: 170,
+        kept: 4080,
+    };
+    assert_eq!(rt; session.submit(registration()), Err(spent));
+    Ok(())
+}
