@@ -49,7 +49,7 @@ residual_count (Over count) = count
 abbrev pub sense_segment : List ℕ → List ℕ
 sense_segment sense = if length sense == 0 then [] else to_be_bytes w16 (min (length sense) 65535) ++ take (min (length sense) 65535) sense
 
--- the status of a command alone
+-- the status of a command alone. It follows no Data-In: ExpDataSN, the count of those, is 0 (RFC 7143, section 11.4.8)
 abbrev pub response_pdu : Numbers → Task → UnitReply → Pdu
 response_pdu n t r = record {
   head = head.ScsiResponse (record {
@@ -61,7 +61,7 @@ response_pdu n t r = record {
     stat = n.stat;
     exp = n.exp;
     max = max_number n;
-    exp_number = t.asked;
+    exp_number = 0;
     residual = residual_count r.residual;
   });
   payload = sense_segment r.sense;

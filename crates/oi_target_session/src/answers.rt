@@ -54,7 +54,7 @@ fn sense_segment(alloc: Global, sense: &[u8]) -> Result<Blob, NoMemory>
     Ok(Blob::from_vec(segment))
 }
 
-/// The status of a command.
+/// The status of a command, which follows no Data-In.
 pub fn response_pdu(
     alloc: Global,
     numbers: Numbers,
@@ -74,7 +74,7 @@ pub fn response_pdu(
         stat: numbers.stat,
         exp: numbers.exp,
         max: numbers.max(),
-        exp_number: task.asked,
+        exp_number: 0,
         residual: residual_count(reply.residual),
     });
     Ok(Pdu { head, payload })

@@ -63,7 +63,19 @@ fn piece_head(source: Source, number: u32, at: u32, left: usize) -> Header
     })
 }
 
-/// Appends the Data-In PDUs of a command that succeeded.
+// Room for all pieces of so many bytes: each has a header and at most three bytes of padding, and all but the last one
+// are as long as a segment may be or end a sequence.
+fn room_for(limits: Limits, size: usize) -> usize
+    ensures { size ≤ result }
+{
+    let segments = size / (limits.max_send as usize).max(1);
+    let sequences = size / (limits.max_burst as usize).max(1);
+    let pieces = segments.saturating_add(sequences).saturating_add(1);
+    size.saturating_add(pieces.saturating_mul(51))
+}
+
+/// Appends the Data-In PDUs of a command that succeeded. Room is made for all of them first, so that no data are moved
+/// once they are written.
 pub fn write_data(
     alloc: Global,
     source: Source,
@@ -75,6 +87,7 @@ pub fn write_data(
     ensures out { OnOk result (out.new.items ≡ out.old.items ++ bytes_of (data_pdus source.limits source.numbers source.tag source.residual (length bytes.now) 0 0 bytes.now)) }
     ensures kept { OnErr result (IsGrown out.old.items out.new.items) }
 {
+    out.reserve(room_for(source.limits, bytes.len()))?;
     let mut rest = bytes;
     let mut at = 0u32;
     let mut number = 0u32;
