@@ -10,9 +10,8 @@ use Rattle.oi_history.specs.declared.fate.Delivered.{Delivered}
 use Rattle.oi_history.specs.declared.fate.Fate.{Fate}
 use Rattle.oi_history.specs.declared.fate.Fate.TheVariants.{Waiting, Live, Done}
 use Rattle.oi_history.specs.declared.task.Task.{Task}
-use Rattle.oi_outcome_laws.proofs.Decided.{outcomes_decided}
-use Rattle.oi_session_laws.proofs.Handed.{at_most_once, exactly_once}
-use Rattle.oi_session_laws.proofs.Counted.{ids_in_order}
+use Rattle.oi_outcome_laws.specs.Outcomes.{OutcomesAreDecided}
+use Rattle.oi_session_laws.specs.Answers.{AtMostOnce, ExactlyOnce, IdsInOrder}
 use Rattle.oi_solo.specs.Sessions.{RunView, Session, entered_all, now_of, run_of}
 
 none_of : (base : ℕ) (t : Task) (f : Fate) → t.fate ≡ f → due_of base (told_task t) f ≡ []
@@ -24,7 +23,7 @@ none_told : (base : ℕ) (ts : List Task) → due_from base (map told_task ts) �
 none_told base [] = refl
 none_told base (t ∷ ts) = ap (λ (ds : List Delivered). ds ++ due_from (base + 1) (map told_task ts)) (none_of base t t.fate refl) ∙ none_told (base + 1) ts
 
-same_count : (a b : ℕ) → nat_eq a b ≡ true → a ≡ b
+pub same_count : (a b : ℕ) → nat_eq a b ≡ true → a ≡ b
 same_count a b is = grind (arith, nat_tests)
 
 no_element : (ds : List Delivered) → nat_eq (length ds) 0 ≡ true → ds ≡ []
@@ -46,17 +45,17 @@ pub ok_then : {T E : Type 0} (r : Result T E) (P Q : Type 0) → (P → Q) → O
 ok_then (Ok x) P Q f p = f p
 ok_then (Err e) P Q f p = tt
 
-pub once_of : (s : Session) (runs : List RunView) → runs ≡ run_of s ∷ [] → ArePermitted s.config s.history → AreOnce runs
-once_of s runs is legal = subst (λ (rs : List RunView). AreOnce rs) (sym is) (λ id. at_most_once s.config s.history legal id, tt)
+pub once_of : AtMostOnce → (s : Session) (runs : List RunView) → runs ≡ run_of s ∷ [] → ArePermitted s.config s.history → AreOnce runs
+once_of law s runs is legal = subst (λ (rs : List RunView). AreOnce rs) (sym is) (λ id. law s.config s.history legal id, tt)
 
-pub decided_of : (s : Session) (runs : List RunView) → runs ≡ run_of s ∷ [] → ArePermitted s.config s.history → AreDecidedRuns runs
-decided_of s runs is legal =
-    subst (λ (rs : List RunView). AreDecidedRuns rs) (sym is) (record { history = s.history; is = refl; decided = outcomes_decided s.config s.history legal }, tt)
+pub decided_of : OutcomesAreDecided → (s : Session) (runs : List RunView) → runs ≡ run_of s ∷ [] → ArePermitted s.config s.history → AreDecidedRuns runs
+decided_of law s runs is legal =
+    subst (λ (rs : List RunView). AreDecidedRuns rs) (sym is) (record { history = s.history; is = refl; decided = law s.config s.history legal }, tt)
 
 less_test : (a b : ℕ) → a < b → nat_lt a b ≡ true
 less_test a b h = grind (arith, nat_tests)
 
-pub answered_of : (s : Session) (runs : List RunView) → runs ≡ run_of s ∷ [] → ArePermitted s.config s.history → is_ended (now_of s).phase ≡ true → due_in (now_of s).tasks ≡ [] → AreAnswered runs
-answered_of s runs is legal ended none =
+pub answered_of : ExactlyOnce → IdsInOrder → (s : Session) (runs : List RunView) → runs ≡ run_of s ∷ [] → ArePermitted s.config s.history → is_ended (now_of s).phase ≡ true → due_in (now_of s).tasks ≡ [] → AreAnswered runs
+answered_of once order s runs is legal ended none =
     subst (λ (rs : List RunView). AreAnswered rs) (sym is)
-    (record { session = s; is = refl; once = λ id less. exactly_once s.config s.history legal ended none id (ids_in_order s.config s.history legal id ∙ less_test id _ less) }, tt)
+    (record { session = s; is = refl; once = λ id less. once s.config s.history legal ended none id (order s.config s.history legal id ∙ less_test id _ less) }, tt)

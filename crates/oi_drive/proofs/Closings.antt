@@ -1,12 +1,16 @@
 -- A run whose input was read and that was closed is the run of its bytes.
-use Rattle.std.proofs.Common.{◌≡◌, ◌∙◌, ◌⊎◌, inl, inr, ◌==◌, ℕ, Bool, true, false, List, [], ◌∷◌, ◌++◌, ◌+◌, suc, zero, length, take, Option, Some, None, is_some, sym, ap, subst, refl, arith, ◌<◌, ◌≤◌, if◌then◌else◌}
+use Rattle.std.proofs.Common.{◌≡◌, ◌∙◌, ◌⊎◌, inl, inr, ◌==◌, ℕ, Bool, true, false, List, [], ◌∷◌, ◌++◌, ◌+◌, suc, zero, length, take, nat_eq, Option, Some, None, is_some, sym, ap, subst, refl, arith, ◌<◌, ◌≤◌, if◌then◌else◌}
+use Rattle.std.proofs.lemmas.Bool.Decides.{nat_tests}
 use Rattle.oi_base.specs.Counts.{Rose}
 use Rattle.oi_base.specs.Limits.{input_limit}
 use Rattle.oi_drive.proofs.Outputs.{behind-append}
 use Rattle.oi_drive.specs.Parts.{BrokeOff}
 use Rattle.oi_drive.proofs.Requests.{broken_asks, whole_asks}
 use Rattle.oi_history.specs.declared.phase.End.TheVariants.{Stopped}
-use Rattle.oi_drive.specs.Endings.{Closes, ClosesBroken, ClosesPartly, FailedBy, HasCause, IsDrive, IsEndedBy, IsLeft, broken_status, cause_of, closed_by, closing_text, drive_world, first_world, status_of, stop_text, terminated}
+use Rattle.oi_drive.proofs.Answered.{same_count}
+use Rattle.oi_drive.specs.Endings.{Closes, ClosesBroken, ClosesPartly, FailedBy, HasCause, IsDrive, IsEndedBy, IsLeft, IsShown, broken_status, cause_of, closed_by, drive_world, end_text, first_world, is_mild, is_status, status_of, terminated}
+use Rattle.oi_drive.specs.declared.runner.Stop.{Stop}
+use Rattle.oi_drive.specs.declared.runner.Stop.TheVariants.{Asked, InputEnd, BadLine, Full}
 use Rattle.oi_drive.specs.Inputs.{BreaksBy, Finishes, rest_text, rest_world}
 use Rattle.oi_drive.specs.Acts.{IsPart}
 use Rattle.oi_drive.specs.Deeds.{Deed, due_of_session, fails, hands_out, hands_out_by, nothing, outcome_lines}
@@ -23,17 +27,14 @@ use Rattle.oi_drive.specs.declared.runner.Broken.TheVariants.{Memory, Read, Writ
 use Rattle.oi_outside.specs.Streams.{IsFront, behind}
 use Rattle.oi_solo.specs.Sessions.{Session, entered_all, now_of, run_of}
 
-abbrev last_text : World → List ℕ
-last_text w = closing_text (cause_of w.stop) w.session ++ stop_text w.stop
-
 drives : (bytes : List ℕ) (w : World) (session : Session) (status : ℕ) (held0 held1 held : Option (List ℕ)) (sink1 sink : ℕ) → w ≡ drive_world bytes → held1 ≡ behind held0 (rest_text input_limit first_world bytes)
     → Closes w session status held1 held sink1 sink → (Rose sink1 sink → ⊥) → (status ≡ 3 → ⊥) → IsDrive bytes status (run_of session ∷ []) held0 held
 drives bytes w session status held0 held1 held sink1 sink same wrote closes quiet memory = record {
   run = ap (λ (s : Session). run_of s ∷ []) (closes.session_is memory ∙ ap (λ (z : World). closed_by (cause_of z.stop) z.session) same);
   text =
-      closes.text quiet memory ∙ (ap (λ (h : Option (List ℕ)). behind h (last_text w)) wrote
-      ∙ (behind-append held0 (rest_text input_limit first_world bytes) (last_text w)
-      ∙ ap (λ (z : World). behind held0 (rest_text input_limit first_world bytes ++ last_text z)) same));
+      closes.text quiet memory ∙ (ap (λ (h : Option (List ℕ)). behind h (end_text w)) wrote
+      ∙ (behind-append held0 (rest_text input_limit first_world bytes) (end_text w)
+      ∙ ap (λ (z : World). behind held0 (rest_text input_limit first_world bytes ++ end_text z)) same));
   status_is = closes.status_is quiet memory ∙ ap (λ (z : World). status_of z.stop z.refused) same;
 }
 
@@ -51,7 +52,72 @@ closes_cause w session status held1 held source0 source sink0 sink1 sink same un
   read = λ is. absurd (closes.read is);
   write = λ is. subst (λ n. Rose n sink) unmoved (closes.write is);
   clean = λ is. (same, closes.clean is ∙ unmoved);
+  refused = λ is. (same, closes.refused is ∙ unmoved);
 }
+
+-- a status that was decided is known
+status_known : (o : Option Stop) (r : Bool) → is_status (status_of o r) ≡ true
+status_known (Some (BadLine line)) r = refl
+status_known (Some (Full line)) r = refl
+status_known (Some Asked) true = refl
+status_known (Some Asked) false = refl
+status_known (Some InputEnd) true = refl
+status_known (Some InputEnd) false = refl
+status_known None true = refl
+status_known None false = refl
+
+-- it gives way where it is 0 or 35
+gives_way : (o : Option Stop) (r : Bool) (status : ℕ) → status ≡ 31 → ((status_of o r ≡ 0 → ⊥) → (status_of o r ≡ 35 → ⊥) → status ≡ status_of o r) → is_mild (status_of o r) ≡ true
+gives_way (Some (BadLine line)) r status is fatal = let same : status ≡ 7 = fatal (λ z. omega (arith, z)) (λ z. omega (arith, z)) in absurd (omega (arith, is, same))
+gives_way (Some (Full line)) r status is fatal = let same : status ≡ 34 = fatal (λ z. omega (arith, z)) (λ z. omega (arith, z)) in absurd (omega (arith, is, same))
+gives_way (Some Asked) true status is fatal = refl
+gives_way (Some Asked) false status is fatal = refl
+gives_way (Some InputEnd) true status is fatal = refl
+gives_way (Some InputEnd) false status is fatal = refl
+gives_way None true status is fatal = refl
+gives_way None false status is fatal = refl
+
+-- a number is this one, or it is not
+other_count : (a b : ℕ) → nat_eq a b ≡ false → a ≡ b → ⊥
+other_count a b other is = grind (arith, nat_tests)
+
+is_or_not : (a b : ℕ) → (a ≡ b) ⊎ (a ≡ b → ⊥)
+is_or_not a b = by (nat_eq a b) refl
+  where
+    by : (t : Bool) → nat_eq a b ≡ t → (a ≡ b) ⊎ (a ≡ b → ⊥)
+    by true is = inl (same_count a b is)
+    by false is = inr (other_count a b is)
+
+shown : (w : World) (session : Session) (status : ℕ) (held1 held : Option (List ℕ)) (sink0 sink1 sink : ℕ) → sink1 ≡ sink0 → Closes w session status held1 held sink1 sink → (status ≡ 3 → ⊥)
+    → IsShown (status_of w.stop w.refused) status sink0 sink
+shown w session status held1 held sink0 sink1 sink unmoved closes memory = by (is_or_not status 31)
+  where
+    by : (status ≡ 31) ⊎ (status ≡ 31 → ⊥) → IsShown (status_of w.stop w.refused) status sink0 sink
+    by (inl is) = inr (is, gives_way w.stop w.refused status is (closes.fatal memory), subst (λ n. Rose n sink) unmoved (closes.write is))
+    by (inr other) = inl (closes.others memory other)
+
+-- the status of a run that read its input is known
+pub closes_known : (w : World) (session : Session) (status : ℕ) (held1 held : Option (List ℕ)) (sink1 sink : ℕ) → Closes w session status held1 held sink1 sink → is_status status ≡ true
+closes_known w session status held1 held sink1 sink closes = by (is_or_not status 3)
+  where
+    by_shown : IsShown (status_of w.stop w.refused) status sink1 sink → is_status status ≡ true
+    by_shown (inl is) = ap is_status is ∙ status_known w.stop w.refused
+    by_shown (inr failed) = ap is_status failed.0
+    by : (status ≡ 3) ⊎ (status ≡ 3 → ⊥) → is_status status ≡ true
+    by (inl is) = ap is_status is
+    by (inr memory) = by_shown (shown w session status held1 held sink1 sink1 sink refl closes memory)
+
+-- and that of a run that broke
+pub broken_known : (b : Broken) (status : ℕ) → ((status ≡ 3 → ⊥) → status ≡ broken_status b) → is_status status ≡ true
+broken_known b status decided = by (is_or_not status 3)
+  where
+    known : (b : Broken) → is_status (broken_status b) ≡ true
+    known Memory = refl
+    known Read = refl
+    known Write = refl
+    by : (status ≡ 3) ⊎ (status ≡ 3 → ⊥) → is_status status ≡ true
+    by (inl is) = ap is_status is
+    by (inr memory) = ap is_status (decided memory) ∙ known b
 
 pub broken_exact : (b : Broken) (status source0 source sink0 sink1 sink : ℕ) (P : Type 0) → BreaksBy b source0 source sink0 sink1 → ((status ≡ 3 → ⊥) → status ≡ broken_status b) → (b ≡ Write → sink ≡ sink1)
     → (Rose source0 source → ⊥) → (Rose sink0 sink → ⊥) → (status ≡ 3 → ⊥) → P
@@ -72,43 +138,35 @@ not_30_31 P status p q = absurd (omega arith)
 not_0 : (P : Type 0) (status n : ℕ) → 0 < n → status ≡ n → status ≡ 0 → P
 not_0 P status n less p q = absurd (omega arith)
 
+not_35 : (P : Type 0) (status n : ℕ) → n < 35 → status ≡ n → status ≡ 35 → P
+not_35 P status n less p q = absurd (omega arith)
+
 pub broken_cause : (b : Broken) (status source0 source sink0 sink1 sink : ℕ) → BreaksBy b source0 source sink0 sink1 → ((status ≡ 3 → ⊥) → status ≡ broken_status b) → (b ≡ Write → sink ≡ sink1)
     → HasCause status source0 source sink0 sink
 broken_cause Memory status source0 source sink0 sink1 sink breaks is kept = record {
   read = λ o. not_3_30 _ status (is (λ m. not_3_30 ⊥ status m o)) o;
   write = λ o. not_3_31 _ status (is (λ m. not_3_31 ⊥ status m o)) o;
   clean = λ o. not_0 _ status 3 (omega arith) (is (λ m. not_0 ⊥ status 3 (omega arith) m o)) o;
+  refused = λ o. not_35 _ status 3 (omega arith) (is (λ m. not_35 ⊥ status 3 (omega arith) m o)) o;
 }
 broken_cause Read status source0 source sink0 sink1 sink breaks is kept = record {
   read = λ o. breaks.0;
   write = λ o. not_30_31 _ status (is (λ m. not_3_31 ⊥ status m o)) o;
   clean = λ o. not_0 _ status 30 (omega arith) (is (λ m. not_0 ⊥ status 3 (omega arith) m o)) o;
+  refused = λ o. not_35 _ status 30 (omega arith) (is (λ m. not_35 ⊥ status 3 (omega arith) m o)) o;
 }
 broken_cause Write status source0 source sink0 sink1 sink breaks is kept = record {
   read = λ o. not_30_31 _ status o (is (λ m. not_3_30 ⊥ status m o));
   write = λ o. subst (λ n. Rose sink0 n) (sym (kept refl)) breaks.0;
   clean = λ o. not_0 _ status 31 (omega arith) (is (λ m. not_0 ⊥ status 3 (omega arith) m o)) o;
-}
-
-front_behind : (xs ys : List ℕ) (k : ℕ) → take (length xs + k) (xs ++ ys) ≡ xs ++ take k ys
-front_behind [] ys k = ap (λ n. take n ys) (omega arith)
-front_behind (x ∷ xs) ys k = ap (λ n. take n (x ∷ xs ++ ys)) (one_less (length xs) k) ∙ ap (λ (z : List ℕ). x ∷ z) (front_behind xs ys k)
-  where
-    one_less : (n k : ℕ) → suc n + k ≡ suc (n + k)
-    one_less n k = omega arith
-
--- a text that is held, and a front of a further one
-both_fronts : (first last : List ℕ) (held0 held1 held : Option (List ℕ)) → held1 ≡ behind held0 first → IsFront last held1 held → IsFront (first ++ last) held0 held
-both_fronts first last held0 held1 held wrote f = record {
-  count = length first + f.count;
-  is = f.is ∙ (ap (λ (h : Option (List ℕ)). behind h (take f.count last)) wrote ∙ (behind-append held0 first (take f.count last)
-      ∙ ap (λ (z : List ℕ). behind held0 z) (sym (front_behind first last f.count))));
+  refused = λ o. not_35 _ status 31 (omega arith) (is (λ m. not_35 ⊥ status 3 (omega arith) m o)) o;
 }
 
 -- a run that read its whole input
-pub whole_left : (left0 left : Option (List ℕ)) (w0 w : World) (session : Session) (status : ℕ) (held0 held1 held : Option (List ℕ)) (source0 source sink0 sink : ℕ) → w0 ≡ first_world
-    → Finishes input_limit left0 w0 w held0 held1 → source ≡ source0 → ClosesPartly w session held1 held → IsLeft left0 left session status held0 held source0 source sink0 sink
-whole_left left0 left w0 w session status held0 held1 held source0 source sink0 sink first finishes quiet closes = record {
+pub whole_left : (left0 left : Option (List ℕ)) (w0 w : World) (session : Session) (status : ℕ) (held0 held1 held : Option (List ℕ)) (source0 source sink0 sink1 sink : ℕ) → w0 ≡ first_world
+    → Finishes input_limit left0 w0 w held0 held1 → source ≡ source0 → sink1 ≡ sink0 → ClosesPartly w session held1 held → Closes w session status held1 held sink1 sink
+    → IsLeft left0 left session status held0 held source0 source sink0 sink
+whole_left left0 left w0 w session status held0 held1 held source0 source sink0 sink1 sink first finishes quiet unmoved closes ends = record {
   broken = None;
   by = record {
     entries = λ bytes is.
@@ -120,7 +178,10 @@ whole_left left0 left w0 w session status held0 held1 held source0 source sink0 
     text = λ bytes is.
         let same = finishes.world bytes is ∙ ap (λ (z : World). rest_world input_limit z bytes) first in
         let wrote = finishes.text bytes is ∙ ap (λ (z : World). behind held0 (rest_text input_limit z bytes)) first in
-        both_fronts (rest_text input_limit first_world bytes) (last_text (drive_world bytes)) held0 held1 held wrote (subst (λ (z : World). IsFront (last_text z) held1 held) same closes.front);
+        subst (λ (z : World). IsFront (end_text z) (behind held0 (rest_text input_limit first_world bytes)) held) same (subst (λ (h : Option (List ℕ)). IsFront (end_text w) h held) wrote closes.front);
+    status_is = λ bytes is memory.
+        let same = finishes.world bytes is ∙ ap (λ (z : World). rest_world input_limit z bytes) first in
+        subst (λ (z : World). IsShown (status_of z.stop z.refused) status sink0 sink) same (shown w session status held1 held sink0 sink1 sink unmoved ends memory);
     source_same = quiet;
   };
 }
@@ -138,8 +199,8 @@ sink_from Memory source0 source sink0 sink1 sink breaks is rose = absurd cc
 -- a run that broke off
 pub partly_left : (b : Broken) (left0 left : Option (List ℕ)) (w0 v : World) (session : Session) (status : ℕ) (held0 held1 held : Option (List ℕ)) (source0 source sink0 sink1 sink : ℕ) → w0 ≡ first_world
     → BreaksBy b source0 source sink0 sink1 → BrokeOff b left0 left w0 v held0 held1 → ClosesBroken b v session status held1 held sink1 sink → (b ≡ Write → sink ≡ sink1) → (b ≡ Memory → status ≡ 3)
-    → IsLeft left0 left session status held0 held source0 source sink0 sink
-partly_left b left0 left w0 v session status held0 held1 held source0 source sink0 sink1 sink first breaks broke closes kept memory = record {
+    → ((status ≡ 3 → ⊥) → status ≡ broken_status b) → IsLeft left0 left session status held0 held source0 source sink0 sink
+partly_left b left0 left w0 v session status held0 held1 held source0 source sink0 sink1 sink first breaks broke closes kept memory decided = record {
   broken = Some b;
   by = record {
     before = v;
@@ -150,6 +211,7 @@ partly_left b left0 left w0 v session status held0 held1 held source0 source sin
     front = closes.front;
     text = λ is quiet calm. closes.text is (λ rose. quiet (sink_from b source0 source sink0 sink1 sink breaks is rose)) calm;
     cause = failed_by b status source0 source sink0 sink1 sink breaks kept memory;
+    status_is = decided;
   };
 }
   where

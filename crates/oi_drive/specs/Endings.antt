@@ -1,5 +1,6 @@
 -- What a run of `drive` comes to: why it ended, its status, its last text.
-use Rattle.std.specs.Prelude.{◌≡◌, ◌⊎◌, ℕ, Bool, false, true, ◌++◌, List, [], ◌∷◌, take, Option, Some, None, pos, if◌then◌else◌}
+use Rattle.std.specs.Prelude.{◌≡◌, ◌⊎◌, ◌==◌, ◌||◌, ℕ, Bool, false, true, ◌++◌, List, [], ◌∷◌, take, Option, Some, None, pos, if◌then◌else◌}
+use Rattle.std.specs.List.{list_any}
 use Rattle.oi_base.specs.Counts.{Rose}
 use Rattle.oi_drive.specs.declared.runner.Broken.{Broken}
 use Rattle.oi_drive.specs.declared.runner.Broken.TheVariants.{Memory, Read, Write}
@@ -70,17 +71,37 @@ stop_text (Some (BadLine line)) = fault_text 7 line
 stop_text (Some (Full line)) = fault_text 34 line
 stop_text o = []
 
+-- what is printed behind the last line
+abbrev pub end_text : World → List ℕ
+end_text w = closing_text (cause_of w.stop) w.session ++ stop_text w.stop
+
 -- the status of a run that broke
 abbrev pub broken_status : Broken → ℕ
 broken_status Memory = 3
 broken_status Read = 30
 broken_status Write = 31
 
--- a last text was printed, or its print failed: that shows only in a status that was 0
+-- the statuses of a replay
+abbrev pub statuses : List ℕ
+statuses = 0 ∷ 3 ∷ 7 ∷ 30 ∷ 31 ∷ 34 ∷ 35 ∷ []
+
+abbrev pub is_status : ℕ → Bool
+is_status status = list_any (λ s. s == status) statuses
+
+-- the statuses behind which a failure of the last print shows
+abbrev pub is_mild : ℕ → Bool
+is_mild status = status == 0 || status == 35
+
+-- behind a last print the status is that of the run; or 31, where that one is 0 or 35 and the sink failed
+abbrev pub IsShown : ℕ → ℕ → ℕ → ℕ → Type 0
+IsShown status0 status sink0 sink = (status ≡ status0) ⊎ ((status ≡ 31) × (is_mild status0 ≡ true) × Rose sink0 sink)
+
+-- a last text was printed, or its print failed: that shows only in a status that was 0 or 35
 pub record PutsOut (text : List ℕ) (status0 status : ℕ) (held0 held : Option (List ℕ)) (sink0 sink : ℕ) : Type 0 where
   pub exact : (Rose sink0 sink → ⊥) → (held ≡ behind held0 text) × (status ≡ status0)
   pub write : status ≡ 31 → Rose sink0 sink
   pub clean : status ≡ 0 → sink ≡ sink0
+  pub refused : status ≡ 35 → sink ≡ sink0
   pub others : (n : ℕ) → status ≡ n → (n ≡ 31 → ⊥) → n ≡ status0
 
 -- the end was entered, and what was due handed out behind it or not
@@ -90,16 +111,19 @@ IsEndedBy cause old now = (now ≡ terminated cause old) ⊎ (now ≡ closed_by 
 -- what is left of a run whose input was read
 pub record Closes (w0 : World) (session : Session) (status : ℕ) (held0 held : Option (List ℕ)) (sink0 sink : ℕ) : Type 0 where
   pub session_is : (status ≡ 3 → ⊥) → session ≡ closed_by (cause_of w0.stop) w0.session
-  pub text : (Rose sink0 sink → ⊥) → (status ≡ 3 → ⊥) → held ≡ behind held0 (closing_text (cause_of w0.stop) w0.session ++ stop_text w0.stop)
+  pub text : (Rose sink0 sink → ⊥) → (status ≡ 3 → ⊥) → held ≡ behind held0 (end_text w0)
   pub status_is : (Rose sink0 sink → ⊥) → (status ≡ 3 → ⊥) → status ≡ status_of w0.stop w0.refused
+  pub fatal : (status ≡ 3 → ⊥) → (status_of w0.stop w0.refused ≡ 0 → ⊥) → (status_of w0.stop w0.refused ≡ 35 → ⊥) → status ≡ status_of w0.stop w0.refused
+  pub others : (status ≡ 3 → ⊥) → (status ≡ 31 → ⊥) → status ≡ status_of w0.stop w0.refused
   pub read : status ≡ 30 → ⊥
   pub write : status ≡ 31 → Rose sink0 sink
   pub clean : status ≡ 0 → sink ≡ sink0
+  pub refused : status ≡ 35 → sink ≡ sink0
 
 -- what of its end stands, whatever failed
 pub record ClosesPartly (w0 : World) (session : Session) (held0 held : Option (List ℕ)) : Type 0 where
   pub entries : IsEndedBy (cause_of w0.stop) w0.session session
-  pub front : IsFront (closing_text (cause_of w0.stop) w0.session ++ stop_text w0.stop) held0 held
+  pub front : IsFront (end_text w0) held0 held
 
 -- the last text of a run that broke; to a sink that failed nothing more is written
 abbrev pub broken_text : Broken → World → List ℕ
@@ -120,8 +144,7 @@ abbrev pub drive_run : List ℕ → RunView
 drive_run bytes = run_of (closed_by (cause_of (drive_world bytes).stop) (drive_world bytes).session)
 
 abbrev pub drive_text : List ℕ → List ℕ
-drive_text bytes =
-    input_text first_world bytes ++ (closing_text (cause_of (drive_world bytes).stop) (drive_world bytes).session ++ stop_text (drive_world bytes).stop)
+drive_text bytes = input_text first_world bytes ++ end_text (drive_world bytes)
 
 abbrev pub drive_status : List ℕ → ℕ
 drive_status bytes = status_of (drive_world bytes).stop (drive_world bytes).refused
@@ -148,12 +171,15 @@ pub record HasCause (status source0 source sink0 sink : ℕ) : Type 0 where
   pub read : status ≡ 30 → Rose source0 source
   pub write : status ≡ 31 → Rose sink0 sink
   pub clean : status ≡ 0 → (source ≡ source0) × (sink ≡ sink0)
+  pub refused : status ≡ 35 → (source ≡ source0) × (sink ≡ sink0)
 
--- a run that read its whole input: its submissions are its lines'; where its end broke, a part of its last entries and a front of the text stand
-pub record IsReadWhole (left0 : Option (List ℕ)) (session : Session) (held0 held : Option (List ℕ)) (source0 source : ℕ) : Type 0 where
+-- a run that read its whole input: its submissions are its lines', and the text of all its lines is held; where its end broke, a part of
+-- its last entries and a front of its last text stand. Only a failure of this last text changes its status
+pub record IsReadWhole (left0 : Option (List ℕ)) (session : Session) (status : ℕ) (held0 held : Option (List ℕ)) (source0 source sink0 sink : ℕ) : Type 0 where
   pub entries : (bytes : List ℕ) → left0 ≡ Some bytes → IsEndedBy (cause_of (drive_world bytes).stop) (drive_world bytes).session session
   pub requests : (bytes : List ℕ) → left0 ≡ Some bytes → requests_in session.history ≡ input_requests first_world bytes
-  pub text : (bytes : List ℕ) → left0 ≡ Some bytes → IsFront (drive_text bytes) held0 held
+  pub text : (bytes : List ℕ) → left0 ≡ Some bytes → IsFront (end_text (drive_world bytes)) (behind held0 (input_text first_world bytes)) held
+  pub status_is : (bytes : List ℕ) → left0 ≡ Some bytes → (status ≡ 3 → ⊥) → IsShown (drive_status bytes) status sink0 sink
   pub source_same : source ≡ source0
 
 -- why a run broke off
@@ -172,10 +198,11 @@ pub record IsReadPartly (broken : Broken) (left0 left : Option (List ℕ)) (sess
   pub front : IsFront (broken_text broken before) printed held
   pub text : broken ≡ Read → (Rose sink0 sink → ⊥) → (status ≡ 3 → ⊥) → held ≡ behind printed (broken_text broken before)
   pub cause : FailedBy broken status source0 source sink0 sink
+  pub status_is : (status ≡ 3 → ⊥) → status ≡ broken_status broken
 
 -- what a run left, whatever failed
 abbrev pub IsLeftBy : Option Broken → Option (List ℕ) → Option (List ℕ) → Session → ℕ → Option (List ℕ) → Option (List ℕ) → ℕ → ℕ → ℕ → ℕ → Type 0
-IsLeftBy None left0 left session status held0 held source0 source sink0 sink = IsReadWhole left0 session held0 held source0 source
+IsLeftBy None left0 left session status held0 held source0 source sink0 sink = IsReadWhole left0 session status held0 held source0 source sink0 sink
 IsLeftBy (Some b) left0 left session status held0 held source0 source sink0 sink = IsReadPartly b left0 left session status held0 held source0 source sink0 sink
 
 pub record IsLeft (left0 left : Option (List ℕ)) (session : Session) (status : ℕ) (held0 held : Option (List ℕ)) (source0 source sink0 sink : ℕ) : Type 0 where

@@ -3,7 +3,7 @@ ghost use Rattle.std.specs.Prelude.{◌≡◌, ◌<◌, length, ◌++◌, ◌∷
 ghost use Rattle.oi_base.specs.Counts.{Rose};
 ghost use Rattle.oi_drive.specs.Answered.{AreAnswered, AreDecidedRuns, AreOnce};
 ghost use Rattle.oi_history.specs.Tasks.{due_in};
-ghost use Rattle.oi_drive.specs.Endings.{AreEnded, AreLeft, Closes, ClosesBroken, ClosesPartly, HasCause, IsDrive, IsEndedBy, IsEndedRun, IsLeft, PutsOut, broken_status, cause_of, closed_by, closing_text, drive_config, first_world, status_of, stop_text, terminated};
+ghost use Rattle.oi_drive.specs.Endings.{AreEnded, AreLeft, Closes, ClosesBroken, ClosesPartly, HasCause, IsDrive, IsEndedBy, IsEndedRun, IsLeft, PutsOut, broken_status, cause_of, closed_by, closing_text, drive_config, first_world, is_status, status_of, stop_text, terminated};
 ghost use Rattle.oi_outside.specs.Streams.{IsCounted, IsFront, behind};
 ghost use Rattle.oi_drive.specs.Runs.{seen};
 ghost use Rattle.oi_drive.specs.Worlds.{one_more};
@@ -17,8 +17,10 @@ use crate::reading::read_input;
 use crate::runner::{Broken, Runner, Stop};
 use oi_base::{NoMemory, Series};
 use oi_history::{End, SessionConfig};
+use oi_outcome_laws::outcomes_are_decided;
 use oi_outside::{Failed, Sink, Source, write_all};
 use oi_script::fault_line;
+use oi_session_laws::{delivered_at_most_once, delivered_exactly_once, ids_are_in_order};
 use oi_solo::{Run, Solo};
 use std::alloc::Global;
 
@@ -240,6 +242,7 @@ fn replay<S: Source, K: Sink>(run: &mut Runner, source: &mut S, sink: &mut K) ->
     ensures settled { (result ≡ 3 → ⊥) → due_in (now_of run.new.solo).tasks ≡ [] }
     ensures exact { (bytes : List ℕ) → S.left source.old ≡ Some bytes → (Rose (S.faults source.old) (S.faults source.new) → ⊥) → (Rose (K.faults sink.old) (K.faults sink.new) → ⊥)
         → (result ≡ 3 → ⊥) → IsDrive bytes result (run_of run.new.solo ∷ []) (K.held sink.old) (K.held sink.new) }
+    ensures known { is_status result ≡ true }
     ensures cause { HasCause result (S.faults source.old) (S.faults source.new) (K.faults sink.old) (K.faults sink.new) }
     ensures left { IsLeft (S.left source.old) (S.left source.new) run.new.solo result (K.held sink.old) (K.held sink.new)
         (S.faults source.old) (S.faults source.new) (K.faults sink.old) (K.faults sink.new) }
@@ -259,7 +262,7 @@ fn without_run(alloc: Global) -> Ended
     }
 }
 
-// The one run of a replay.
+// The one run of a replay. What it answered follows from the laws of a permitted history.
 #[tactic(auto, using(crate::proofs::Answered::once_of, crate::proofs::Answered::answered_of, crate::proofs::Answered::decided_of))]
 fn one_run(solo: Solo, mut room: Vec<Run>) -> Series<Run>
     requires empty { room.items ≡ [] }
@@ -272,6 +275,10 @@ fn one_run(solo: Solo, mut room: Vec<Run>) -> Series<Run>
     ensures every { due_in (now_of solo).tasks ≡ [] → AreAnswered result }
 {
     let _ = solo.phase();
+    outcomes_are_decided();
+    delivered_at_most_once();
+    delivered_exactly_once();
+    ids_are_in_order();
     room.push(solo.close()).unwrap();
     Series::from_vec(room)
 }
@@ -291,6 +298,7 @@ pub fn drive_main<S: Source, K: Sink>(alloc: Global, source: &mut S, sink: &mut 
     ensures one { (result.status ≡ 3 → ⊥) → length result.runs ≡ 1 }
     ensures exact { (bytes : List ℕ) → S.left source.old ≡ Some bytes → (Rose (S.faults source.old) (S.faults source.new) → ⊥) → (Rose (K.faults sink.old) (K.faults sink.new) → ⊥)
         → (result.status ≡ 3 → ⊥) → IsDrive bytes result.status result.runs (K.held sink.old) (K.held sink.new) }
+    ensures known { is_status result.status ≡ true }
     ensures cause { HasCause result.status (S.faults source.old) (S.faults source.new) (K.faults sink.old) (K.faults sink.new) }
     ensures left { AreLeft (S.left source.old) (S.left source.new) result.runs result.status (K.held sink.old) (K.held sink.new)
         (S.faults source.old) (S.faults source.new) (K.faults sink.old) (K.faults sink.new) }

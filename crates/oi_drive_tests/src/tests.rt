@@ -31,7 +31,7 @@ fn replay(
 }
 
 // An input, the numbers of the calls that fail, the status and the text that are wanted.
-static FAILING: [(&[u8], &[u64], &[u64], u8, &[u8]); 7] = [
+static FAILING: [(&[u8], &[u64], &[u64], u8, &[u8]); 9] = [
     (b"", &[], &[], 0, b""),
     (b"end", &[], &[], 0, b""),
     (b"end\nread 0\n", &[], &[], 0, b""),
@@ -39,6 +39,9 @@ static FAILING: [(&[u8], &[u64], &[u64], u8, &[u8]); 7] = [
     (b"", &[0], &[], 30, b"fault 30 1\n"),
     (b"login 1 32 5\n", &[1], &[], 30, b"login 1\nfault 30 2\n"),
     (b"login 1 32 5\n", &[], &[0], 31, b""),
+    // a line that is refused, and a flush that fails behind it
+    (b"abort 0\n", &[], &[], 35, b"refused 1 unknown\n"),
+    (b"abort 0\n", &[], &[1], 31, b"refused 1 unknown\n"),
 ];
 
 #[test]

@@ -3,6 +3,7 @@
 
 use oi_net::{FolderStore, StdSink, StdSource};
 use oi_top::iscsi_main;
+use std::io::ErrorKind;
 use std::path::PathBuf;
 use std::process::ExitCode;
 use std::{env, io};
@@ -17,6 +18,14 @@ fn words(rt: &HostRuntime) -> io::Result<Vec<String>> {
     Ok(words)
 }
 
+// The program's words. Where they are no texts they are none of the program's, as if there were none.
+fn own_words(rt: &HostRuntime) -> io::Result<Vec<String>> {
+    match words(rt) {
+        Err(e) if e.kind() != ErrorKind::OutOfMemory => Ok(Vec::new(rt.alloc())),
+        words => words,
+    }
+}
+
 // The folder that the first word names.
 fn folder(rt: &HostRuntime, words: &[String]) -> io::Result<PathBuf> {
     match words.first() {
@@ -26,7 +35,7 @@ fn folder(rt: &HostRuntime, words: &[String]) -> io::Result<PathBuf> {
 }
 
 fn main(rt: HostRuntime) -> ExitCode {
-    let Ok(words) = words(&rt) else {
+    let Ok(words) = own_words(&rt) else {
         return ExitCode::from(WANT_OF_MEMORY);
     };
     let Ok(folder) = folder(&rt, &words) else {

@@ -1,5 +1,5 @@
 use Rattle.std.proofs.Common.{◌∷◌, []}
-use Rattle.oi_drive.proofs.Closings.{broken_cause, broken_exact, closes_cause, closes_exact, partly_left, whole_left}
+use Rattle.oi_drive.proofs.Closings.{broken_cause, broken_exact, broken_known, closes_cause, closes_exact, closes_known, partly_left, whole_left}
 use Rattle.oi_drive.specs.Endings.{IsDrive}
 use Rattle.oi_drive.specs.Runs.{seen}
 use Rattle.oi_solo.specs.Sessions.{run_of}
@@ -34,11 +34,20 @@ pub returns-in-Ok-clause-left : goal.returns-in-Ok-clause-left
 returns-in-Ok-clause-left g c =
     whole_left (g.S.Source.left c.args.source.now) (g.S.Source.left c.read_input.new.source) (seen c.args.run.now) (seen c.read_input.new.run) c.close_read.new.run.solo c.close_read.result
     (g.K.Sink.held c.args.sink.now) (g.K.Sink.held c.read_input.new.sink) (g.K.Sink.held c.close_read.new.sink) (g.S.Source.faults c.args.source.now) (g.S.Source.faults c.read_input.new.source)
-    (g.K.Sink.faults c.args.sink.now) (g.K.Sink.faults c.close_read.new.sink) c.requires c.in-Ok.ensures.0 c.in-Ok.ensures.1 c.close_read.ensures.partly
+    (g.K.Sink.faults c.args.sink.now) (g.K.Sink.faults c.read_input.new.sink) (g.K.Sink.faults c.close_read.new.sink) c.requires c.in-Ok.ensures.0 c.in-Ok.ensures.1 c.in-Ok.ensures.2
+    c.close_read.ensures.partly c.close_read.ensures.closes
 
 pub returns-in-Err-clause-left : goal.returns-in-Err-clause-left
 returns-in-Err-clause-left g c =
     partly_left c.in-Err.broken (g.S.Source.left c.args.source.now) (g.S.Source.left c.read_input.new.source) (seen c.args.run.now) (seen c.read_input.new.run) c.close_broken.new.run.solo c.close_broken.result
     (g.K.Sink.held c.args.sink.now) (g.K.Sink.held c.read_input.new.sink) (g.K.Sink.held c.close_broken.new.sink) (g.S.Source.faults c.args.source.now) (g.S.Source.faults c.read_input.new.source)
     (g.K.Sink.faults c.args.sink.now) (g.K.Sink.faults c.read_input.new.sink) (g.K.Sink.faults c.close_broken.new.sink) c.requires c.in-Err.ensures.0 c.in-Err.ensures.1 c.close_broken.ensures.closes
-    c.close_broken.ensures.quiet c.close_broken.ensures.memory
+    c.close_broken.ensures.quiet c.close_broken.ensures.memory c.close_broken.ensures.status
+
+pub returns-in-Ok-clause-known : goal.returns-in-Ok-clause-known
+returns-in-Ok-clause-known g c =
+    closes_known (seen c.read_input.new.run) c.close_read.new.run.solo c.close_read.result (g.K.Sink.held c.read_input.new.sink) (g.K.Sink.held c.close_read.new.sink)
+    (g.K.Sink.faults c.read_input.new.sink) (g.K.Sink.faults c.close_read.new.sink) c.close_read.ensures.closes
+
+pub returns-in-Err-clause-known : goal.returns-in-Err-clause-known
+returns-in-Err-clause-known g c = broken_known c.in-Err.broken c.close_broken.result c.close_broken.ensures.status
