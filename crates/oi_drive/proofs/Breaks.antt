@@ -1,5 +1,5 @@
 -- Where a replay broke off.
-use Rattle.std.proofs.Common.{◌≡◌, ◌∙◌, ℕ, suc, zero, List, [], ◌∷◌, ◌++◌, Option, Some, None, Result, Ok, Err, OnErr, take, drop, ◌≤◌, sym, ap, subst, refl, arith, append_assoc}
+use Rattle.std.proofs.Common.{◌≡◌, ◌∙◌, ℕ, suc, zero, false, List, [], ◌∷◌, ◌++◌, Option, Some, None, is_some, Result, Ok, Err, OnErr, take, drop, ◌≤◌, sym, ap, subst, refl, arith, append_assoc}
 use Rattle.oi_drive.proofs.Outputs.{behind-append, behind_none}
 use Rattle.oi_drive.proofs.Parts.{nothing_done, whole_step}
 use Rattle.oi_drive.proofs.Readings.{IsFed, feed-append, feed_text-append}
@@ -56,6 +56,7 @@ unmoved b left0 left w held is = record {
   fed = [];
   more = [];
   moved = sym is ∙ sym (front_none left);
+  going = λ going. going;
   partly = not_begun w w (behind held []) held refl (sym (behind_none held));
   all = λ _. (refl, refl, sym (behind_none held));
 }
@@ -72,6 +73,7 @@ piece_broke b left0 left w v held0 held faults0 faults piece rest text moved p b
   fed = broke.fed;
   more = broke.more ++ rest;
   moved = moved ∙ ap (λ (z : List ℕ). in_front z left) (ap (λ (z : List ℕ). z ++ rest) broke.whole ∙ append_assoc broke.fed broke.more rest);
+  going = λ _. broke.going;
   partly = broke.partly;
   all = λ is. never_read b text held0 held faults0 faults _ p is;
 }
@@ -99,19 +101,20 @@ front_broke b left0 left w v held0 held faults0 faults n room buf piece text mov
 
 -- in the last line, behind the end of the input
 pub end_broke : (b : Broken) (left0 left : Option (List ℕ)) (w v : World) (held0 held : Option (List ℕ)) (faults0 faults n : ℕ) (buf text : List ℕ) → left0 ≡ in_front (take n buf) left → n ≡ 0
-    → Counts (Err b) text held0 held faults0 faults → IsPartly w v held0 held → BrokeOff b left0 left w v held0 held
-end_broke b left0 left w v held0 held faults0 faults n buf text moved none p partly = record {
+    → Counts (Err b) text held0 held faults0 faults → IsPartly w v held0 held → is_some w.stop ≡ false → BrokeOff b left0 left w v held0 held
+end_broke b left0 left w v held0 held faults0 faults n buf text moved none p partly going = record {
   fed = [];
   more = [];
   moved = moved ∙ ap (λ m. in_front (take m buf) left) none;
+  going = λ _. going;
   partly = subst (λ (h : Option (List ℕ)). IsPartly w v h held) (sym (behind_none held0)) partly;
   all = λ is. never_read b text held0 held faults0 faults _ p is;
 }
 
 -- behind what was taken before
-pub broke_behind : (b : Broken) (left0 left left1 : Option (List ℕ)) (w0 w v : World) (held0 held held1 : Option (List ℕ)) → IsFed left0 left w0 w held0 held → BrokeOff b left left1 w v held held1
-    → BrokeOff b left0 left1 w0 v held0 held1
-broke_behind b left0 left left1 w0 w v held0 held held1 f broke =
+pub broke_behind : (b : Broken) (left0 left left1 : Option (List ℕ)) (w0 w v : World) (held0 held held1 : Option (List ℕ)) → IsFed left0 left w0 w held0 held → (is_some w0.stop ≡ false → is_some w.stop ≡ false)
+    → BrokeOff b left left1 w v held held1 → BrokeOff b left0 left1 w0 v held0 held1
+broke_behind b left0 left left1 w0 w v held0 held held1 f goes_on broke =
     let goes : feed w broke.fed ≡ feed w0 (f.fed ++ broke.fed) = ap (λ (z : World). feed z broke.fed) f.world ∙ sym (feed-append w0 f.fed broke.fed) in
     let text : behind held (feed_text w broke.fed) ≡ behind held0 (feed_text w0 (f.fed ++ broke.fed)) =
     ap (λ (z : Option (List ℕ)). behind z (feed_text w broke.fed)) f.text ∙ (behind-append held0 (feed_text w0 f.fed) (feed_text w broke.fed)
@@ -119,6 +122,7 @@ broke_behind b left0 left left1 w0 w v held0 held held1 f broke =
     record {
       fed = f.fed ++ broke.fed;
       more = broke.more;
+      going = λ going. subst (λ (z : World). is_some z.stop ≡ false) goes (broke.going (goes_on going));
       moved = f.moved ∙ (ap (λ (z : Option (List ℕ)). in_front f.fed z) broke.moved ∙ (front-append f.fed (broke.fed ++ broke.more) left1
           ∙ ap (λ (z : List ℕ). in_front z left1) (sym (append_assoc f.fed broke.fed broke.more))));
       partly = subst (λ (h : Option (List ℕ)). IsPartly (feed w0 (f.fed ++ broke.fed)) v h held1) text

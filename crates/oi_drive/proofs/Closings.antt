@@ -1,5 +1,5 @@
 -- A run whose input was read and that was closed is the run of its bytes.
-use Rattle.std.proofs.Common.{◌≡◌, ◌∙◌, ◌⊎◌, inl, inr, ◌==◌, ℕ, Bool, true, false, List, [], ◌∷◌, ◌++◌, ◌+◌, suc, zero, length, take, nat_eq, Option, Some, None, is_some, sym, ap, subst, refl, arith, ◌<◌, ◌≤◌, if◌then◌else◌}
+use Rattle.std.proofs.Common.{◌≡◌, ◌∙◌, ◌⊎◌, inl, inr, ◌==◌, ℕ, Bool, true, false, true≢false, List, [], ◌∷◌, ◌++◌, ◌+◌, suc, zero, length, take, nat_eq, Option, Some, None, is_some, sym, ap, subst, refl, arith, ◌<◌, ◌≤◌, if◌then◌else◌}
 use Rattle.std.proofs.lemmas.Bool.Decides.{nat_tests}
 use Rattle.oi_base.specs.Counts.{Rose}
 use Rattle.oi_base.specs.Limits.{input_limit}
@@ -66,20 +66,12 @@ status_known (Some InputEnd) false = refl
 status_known None true = refl
 status_known None false = refl
 
--- it gives way where it is 0 or 35
-gives_way : (o : Option Stop) (r : Bool) (status : ℕ) → status ≡ 31 → ((status_of o r ≡ 0 → ⊥) → (status_of o r ≡ 35 → ⊥) → status ≡ status_of o r) → is_mild (status_of o r) ≡ true
-gives_way (Some (BadLine line)) r status is fatal = let same : status ≡ 7 = fatal (λ z. omega (arith, z)) (λ z. omega (arith, z)) in absurd (omega (arith, is, same))
-gives_way (Some (Full line)) r status is fatal = let same : status ≡ 34 = fatal (λ z. omega (arith, z)) (λ z. omega (arith, z)) in absurd (omega (arith, is, same))
-gives_way (Some Asked) true status is fatal = refl
-gives_way (Some Asked) false status is fatal = refl
-gives_way (Some InputEnd) true status is fatal = refl
-gives_way (Some InputEnd) false status is fatal = refl
-gives_way None true status is fatal = refl
-gives_way None false status is fatal = refl
-
 -- a number is this one, or it is not
 other_count : (a b : ℕ) → nat_eq a b ≡ false → a ≡ b → ⊥
-other_count a b other is = grind (arith, nat_tests)
+other_count a b other is = absurd (true≢false (sym (eqb_same a b is) ∙ other))
+  where
+    eqb_same : (a b : ℕ) → a ≡ b → nat_eq a b ≡ true
+    eqb_same a b is = grind (arith, nat_tests)
 
 is_or_not : (a b : ℕ) → (a ≡ b) ⊎ (a ≡ b → ⊥)
 is_or_not a b = by (nat_eq a b) refl
@@ -87,6 +79,19 @@ is_or_not a b = by (nat_eq a b) refl
     by : (t : Bool) → nat_eq a b ≡ t → (a ≡ b) ⊎ (a ≡ b → ⊥)
     by true is = inl (same_count a b is)
     by false is = inr (other_count a b is)
+
+-- it gives way where it is 0 or 35
+gives_way : (o : Option Stop) (r : Bool) (status : ℕ) → status ≡ 31 → ((status_of o r ≡ 0 → ⊥) → (status_of o r ≡ 35 → ⊥) → status ≡ status_of o r) → is_mild (status_of o r) ≡ true
+gives_way (Some (BadLine line)) r status is fatal =
+    let same : status ≡ 7 = fatal (other_count 7 0 refl) (other_count 7 35 refl) in absurd (other_count 31 7 refl (sym is ∙ same))
+gives_way (Some (Full line)) r status is fatal =
+    let same : status ≡ 34 = fatal (other_count 34 0 refl) (other_count 34 35 refl) in absurd (other_count 31 34 refl (sym is ∙ same))
+gives_way (Some Asked) true status is fatal = refl
+gives_way (Some Asked) false status is fatal = refl
+gives_way (Some InputEnd) true status is fatal = refl
+gives_way (Some InputEnd) false status is fatal = refl
+gives_way None true status is fatal = refl
+gives_way None false status is fatal = refl
 
 shown : (w : World) (session : Session) (status : ℕ) (held1 held : Option (List ℕ)) (sink0 sink1 sink : ℕ) → sink1 ≡ sink0 → Closes w session status held1 held sink1 sink → (status ≡ 3 → ⊥)
     → IsShown (status_of w.stop w.refused) status sink0 sink
@@ -103,6 +108,7 @@ closes_known w session status held1 held sink1 sink closes = by (is_or_not statu
     by_shown : IsShown (status_of w.stop w.refused) status sink1 sink → is_status status ≡ true
     by_shown (inl is) = ap is_status is ∙ status_known w.stop w.refused
     by_shown (inr failed) = ap is_status failed.0
+
     by : (status ≡ 3) ⊎ (status ≡ 3 → ⊥) → is_status status ≡ true
     by (inl is) = ap is_status is
     by (inr memory) = by_shown (shown w session status held1 held sink1 sink1 sink refl closes memory)
@@ -115,6 +121,7 @@ broken_known b status decided = by (is_or_not status 3)
     known Memory = refl
     known Read = refl
     known Write = refl
+
     by : (status ≡ 3) ⊎ (status ≡ 3 → ⊥) → is_status status ≡ true
     by (inl is) = ap is_status is
     by (inr memory) = ap is_status (decided memory) ∙ known b

@@ -130,6 +130,7 @@ pub record IsFed (left0 left : Option (List ℕ)) (w0 w : World) (held0 held : O
 pub record IsGoing (limit room : ℕ) (left0 left : Option (List ℕ)) (w0 w : World) (held0 held : Option (List ℕ)) (source0 source sink0 sink : ℕ) : Type 0 where
   pub rest : (bytes : List ℕ) → left0 ≡ Some bytes → Rest limit room left w0 w held0 held bytes
   pub so_far : IsFed left0 left w0 w held0 held
+  pub going : is_some w0.stop ≡ false → is_some w.stop ≡ false
   pub source_same : source ≡ source0
   pub sink_same : sink ≡ sink0
 
@@ -155,7 +156,7 @@ fed_more left0 left left1 w0 w w1 held0 held held1 piece f moved goes wrote = re
 }
 
 pub going_first : (limit : ℕ) (left : Option (List ℕ)) (w : World) (held : Option (List ℕ)) (source sink : ℕ) → IsGoing limit limit left left w w held held source source sink sink
-going_first limit left w held source sink = record { rest = λ bytes is. record { more = bytes; is = is; world = refl; text = refl }; so_far = fed_first left w held; source_same = refl; sink_same = refl }
+going_first limit left w held source sink = record { rest = λ bytes is. record { more = bytes; is = is; world = refl; text = refl }; so_far = fed_first left w held; going = λ going. going; source_same = refl; sink_same = refl }
 
 pub going_more : (limit room less : ℕ) (left0 left left1 : Option (List ℕ)) (w0 w w1 : World) (held0 held held1 : Option (List ℕ)) (source0 source source1 sink0 sink sink1 : ℕ)
     → IsGoing limit room left0 left w0 w held0 held source0 source sink0 sink → GoesOn room less left left1 w w1 held held1 → source1 ≡ source → sink1 ≡ sink
@@ -176,6 +177,7 @@ going_more limit room less left0 left left1 w0 w w1 held0 held held1 source0 sou
             ∙ (ap (λ (z : List ℕ). behind held (rest_text room w z)) (sym b.whole) ∙ old.text))));
       };
   so_far = fed_more left0 left left1 w0 w w1 held0 held held1 go.piece r.so_far go.moved go.world go.text;
+  going = λ _. go.going;
   source_same = same_source ∙ r.source_same;
   sink_same = same_sink ∙ r.sink_same;
 }

@@ -1,5 +1,5 @@
 -- Bytes taken one after another.
-use Rattle.std.proofs.Common.{◌≡◌, ◌∙◌, ◌+◌, ◌≤◌, ◌<◌, ℕ, suc, zero, List, [], ◌∷◌, ◌++◌, Option, length, take, drop, get_or, sym, ap, subst, refl, arith, append-nil}
+use Rattle.std.proofs.Common.{◌≡◌, ◌∙◌, ◌+◌, ◌≤◌, ◌<◌, ℕ, suc, zero, false, List, [], ◌∷◌, ◌++◌, Option, is_some, length, take, drop, get_or, sym, ap, subst, refl, arith, append-nil}
 use Rattle.std.proofs.lemmas.List.{take_more}
 use Rattle.oi_drive.proofs.Outputs.{behind-append, behind_none}
 use Rattle.oi_drive.proofs.Readings.{feed-append, feed_text-append}
@@ -62,10 +62,12 @@ cut_at (suc i) [] = refl
 cut_at (suc i) (x ∷ xs) = ap (λ (z : List ℕ). x ∷ z) (cut_at i xs)
 
 -- a byte broke
-pub taking_broke : (w0 w v : World) (piece : List ℕ) (i : ℕ) (held0 held held1 : Option (List ℕ)) (faults0 faults : ℕ) → IsTaking w0 w piece i held0 held faults0 faults → IsPartly w v held held1 → BrokeIn piece w0 v held0 held1
-taking_broke w0 w v piece i held0 held held1 faults0 faults r partly = record {
+pub taking_broke : (w0 w v : World) (piece : List ℕ) (i : ℕ) (held0 held held1 : Option (List ℕ)) (faults0 faults : ℕ) → IsTaking w0 w piece i held0 held faults0 faults → IsPartly w v held held1 → is_some w.stop ≡ false
+    → BrokeIn piece w0 v held0 held1
+taking_broke w0 w v piece i held0 held held1 faults0 faults r partly going = record {
   fed = take i piece;
   more = drop i piece;
   whole = cut_at i piece;
+  going = subst (λ (z : World). is_some z.stop ≡ false) r.world going;
   partly = subst (λ (h : Option (List ℕ)). IsPartly (feed w0 (take i piece)) v h held1) r.text (subst (λ (z : World). IsPartly z v held held1) r.world partly);
 }

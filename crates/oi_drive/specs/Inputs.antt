@@ -1,5 +1,5 @@
 -- The rest of an input, of which so many bytes may still come.
-use Rattle.std.specs.Prelude.{◌≡◌, ◌+◌, ◌<◌, ℕ, ◌++◌, List, Option, Some, None, Result, Ok, Err, length, take, nat_le, if◌then◌else◌}
+use Rattle.std.specs.Prelude.{◌≡◌, ◌+◌, ◌<◌, ℕ, false, ◌++◌, List, Option, Some, None, Result, Ok, Err, is_some, length, take, nat_le, if◌then◌else◌}
 use Rattle.oi_base.specs.Counts.{Rose}
 use Rattle.oi_drive.specs.Parts.{BrokeOff}
 use Rattle.oi_drive.specs.Worlds.{World, feed, feed_text, input_end, input_end_text, input_over}
@@ -24,13 +24,14 @@ pub record Finishes (room : ℕ) (left0 : Option (List ℕ)) (w0 w : World) (hel
   pub world : (bytes : List ℕ) → left0 ≡ Some bytes → w ≡ rest_world room w0 bytes
   pub text : (bytes : List ℕ) → left0 ≡ Some bytes → held ≡ behind held0 (rest_text room w0 bytes)
 
--- a piece was taken, and less may come
+-- a piece was taken, no line of it stopped the input, and less may come
 pub record GoesOn (room less : ℕ) (left0 left : Option (List ℕ)) (w0 w : World) (held0 held : Option (List ℕ)) : Type 0 where
   pub piece : List ℕ
   pub moved : left0 ≡ in_front piece left
   pub count : length piece + less ≡ room
   pub some : 0 < length piece
   pub world : w ≡ feed w0 piece
+  pub going : is_some w.stop ≡ false
   pub text : held ≡ behind held0 (feed_text w0 piece)
 
 abbrev pub ReadsOnce : Result (Option ℕ) Broken → ℕ → Option (List ℕ) → Option (List ℕ) → World → World → Option (List ℕ) → Option (List ℕ) → ℕ → ℕ → ℕ → ℕ → Type 0

@@ -1,4 +1,4 @@
-ghost use Rattle.std.specs.Prelude.{◌≡◌, ◌++◌, ◌∷◌, [], OnErr, OnOk};
+ghost use Rattle.std.specs.Prelude.{◌≡◌, ◌++◌, ◌∷◌, [], OnErr, OnOk, false, is_some};
 ghost use Rattle.oi_drive.specs.Parts.{BrokeIn, IsPartly};
 ghost use Rattle.oi_drive.specs.Runs.{seen};
 ghost use Rattle.oi_drive.specs.Worlds.{byte_text, feed, feed_byte, feed_text, input_end, input_end_text, line_step, line_text, stopped_at_end};
@@ -33,6 +33,7 @@ fn end_line<K: Sink>(run: &mut Runner, sink: &mut K) -> Result<(), Broken>
 
 /// One byte of the input.
 pub fn take_byte<K: Sink>(run: &mut Runner, sink: &mut K, b: u8) -> Result<(), Broken>
+    ensures going { OnErr result (is_some (seen run.old).stop ≡ false) }
     ensures world { OnOk result (seen run.new ≡ feed_byte (seen run.old) b) }
     ensures prints { Counts result (byte_text (seen run.old) b) (K.held sink.old) (K.held sink.new) (K.faults sink.old) (K.faults sink.new) }
     ensures partly { OnErr result (IsPartly (seen run.old) (seen run.new) (K.held sink.old) (K.held sink.new)) }
@@ -77,6 +78,7 @@ fn stop_at_end(run: &mut Runner)
 /// The end of the input: a last line may lack its line feed.
 #[tactic(auto, using(crate::proofs::Outputs::behind_none))]
 pub fn end_of_input<K: Sink>(run: &mut Runner, sink: &mut K) -> Result<(), Broken>
+    ensures going { OnErr result (is_some (seen run.old).stop ≡ false) }
     ensures world { OnOk result (seen run.new ≡ input_end (seen run.old)) }
     ensures prints { Counts result (input_end_text (seen run.old)) (K.held sink.old) (K.held sink.new) (K.faults sink.old) (K.faults sink.new) }
     ensures partly { OnErr result (IsPartly (seen run.old) (seen run.new) (K.held sink.old) (K.held sink.new)) }

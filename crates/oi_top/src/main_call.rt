@@ -1,7 +1,7 @@
 ghost use Rattle.std.specs.Prelude.{◌≡◌, length, ℕ, List, [], Some, OnOk, codes, true, false};
 ghost use Rattle.oi_base.specs.Counts.{Rose};
 ghost use Rattle.oi_drive.specs.Answered.{AreAnswered, AreDecidedRuns, AreOnce};
-ghost use Rattle.oi_drive.specs.Endings.{AreEnded, AreLeft, HasCause, IsDrive};
+ghost use Rattle.oi_drive.specs.Endings.{AreEnded, AreLeft, HasCause, IsDrive, is_status};
 ghost use Rattle.oi_outside.specs.Streams.{IsCounted, IsFront, behind};
 ghost use Rattle.oi_tool.specs.Asking.{AreRefused};
 ghost use Rattle.oi_tool.specs.Runs.{IsTool};
@@ -66,6 +66,7 @@ pub fn iscsi_main<S: Source, K: Sink, R: RecordStore>(
     ensures one { is_drive words.now ≡ true → (result.status ≡ 3 → ⊥) → length result.runs ≡ 1 }
     ensures exact { is_drive words.now ≡ true → (bytes : List ℕ) → S.left source.old ≡ Some bytes → (Rose (S.faults source.old) (S.faults source.new) → ⊥)
         → (Rose (K.faults sink.old) (K.faults sink.new) → ⊥) → (result.status ≡ 3 → ⊥) → IsDrive bytes result.status result.runs (K.held sink.old) (K.held sink.new) }
+    ensures known { is_tool words.now ≡ false → is_status result.status ≡ true }
     ensures cause { HasCause result.status (S.faults source.old) (S.faults source.new) (K.faults sink.old) (K.faults sink.new) }
     ensures left { is_drive words.now ≡ true → AreLeft (S.left source.old) (S.left source.new) result.runs result.status (K.held sink.old) (K.held sink.new)
         (S.faults source.old) (S.faults source.new) (K.faults sink.old) (K.faults sink.new) }

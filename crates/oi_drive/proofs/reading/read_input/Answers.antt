@@ -43,5 +43,5 @@ returns-in-Err g c =
           (g.K.Sink.faults c.args.sink.now) (g.K.Sink.faults c.loop-less.sink) (g.K.Sink.faults c.read_once.new.sink) r.source_same r.sink_same c.in-Err.ensures.0,
       broke_behind c.in-Err.broken (g.S.Source.left c.args.source.now) (g.S.Source.left c.loop-less.source) (g.S.Source.left c.read_once.new.source)
           (seen c.args.run.now) (seen c.loop-less.run) (seen c.read_once.new.run) (g.K.Sink.held c.args.sink.now) (g.K.Sink.held c.loop-less.sink) (g.K.Sink.held c.read_once.new.sink)
-          r.so_far c.in-Err.ensures.1,
+          r.so_far r.going c.in-Err.ensures.1,
     )

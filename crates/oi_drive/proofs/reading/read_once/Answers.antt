@@ -41,7 +41,7 @@ returns-in-Err-end_of_input g c = (
       (g.K.Sink.faults c.args.sink.now) (g.K.Sink.faults c.end_of_input.new.sink) c.in-Ok.ensures.count c.in-Err-end_of_input.ensures.prints,
   end_broke c.in-Err-end_of_input.broken (g.S.Source.left c.args.source.now) (g.S.Source.left c.read.new.self) (seen c.args.run.now) (seen c.end_of_input.new.run)
       (g.K.Sink.held c.args.sink.now) (g.K.Sink.held c.end_of_input.new.sink) (g.K.Sink.faults c.args.sink.now) (g.K.Sink.faults c.end_of_input.new.sink) c.in-Ok.n c.read.new.buf
-      _ c.in-Ok.ensures.reads.1 c.if-n-eq0.true c.in-Err-end_of_input.ensures.prints c.in-Err-end_of_input.ensures.partly,
+      _ c.in-Ok.ensures.reads.1 c.if-n-eq0.true c.in-Err-end_of_input.ensures.prints c.in-Err-end_of_input.ensures.partly c.in-Err-end_of_input.ensures.going,
 )
 
 pub returns-in-Err-take_piece-2 : goal.returns-in-Err-take_piece-2
