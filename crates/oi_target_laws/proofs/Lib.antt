@@ -1,0 +1,6 @@
+pub mod Accounts
+pub mod Handles
+pub mod Idle
+pub mod Moves
+pub mod Steps
+pub mod Turns

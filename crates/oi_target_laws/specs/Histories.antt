@@ -1,0 +1,161 @@
+-- The commands of a connection since the target was made, and what became of each of them. All is said of the connections of one number,
+-- which have followed one another where a number was given again.
+use Rattle.std.specs.Prelude.{◌≡◌, ◌+◌, ℕ, Bool, true, false, Option, Some, None, List, [], ◌∷◌, ◌++◌, bytes_eq, count_by, map, ◌==◌, if◌then◌else◌}
+use Rattle.std.specs.List.{flat_map}
+use Rattle.oi_pdu.specs.declared.codec.Pdu.{Pdu}
+use Rattle.oi_target.specs.Events.{Event, Left, Whole, Malformed, state_after}
+use Rattle.oi_target.specs.Runs.{event_requests}
+use Rattle.oi_target.specs.Targets.{Target, aside, link_of, nexus_of}
+use Rattle.oi_target.specs.declared.config.TargetConfig.{TargetConfig}
+use Rattle.oi_target.specs.declared.link.Link.{Link}
+use Rattle.oi_target.specs.declared.link.Standing.{Standing}
+use Rattle.oi_target.specs.declared.link.Standing.TheVariants as standing
+use Rattle.oi_target_laws.specs.Turned.{Turned, came_in, command_of_request, commands_of, ended_at, taken_by, turns_at}
+use Rattle.oi_target_laws.specs.Within.{Within}
+use Rattle.oi_target_login.specs.Logins.{turned}
+use Rattle.oi_target_login.specs.declared.answer.Verdict.{Verdict}
+use Rattle.oi_target_login.specs.declared.answer.Verdict.TheVariants as verdict
+use Rattle.oi_target_session.specs.Arrivals.{place_of, received}
+use Rattle.oi_target_session.specs.Sessions.{spared}
+use Rattle.oi_target_session.specs.declared.reset.Reset.{Reset}
+use Rattle.oi_target_tasks.specs.Tasks.{is_stuck}
+use Rattle.oi_target_tasks.specs.declared.task.Task.{Task}
+use Rattle.oi_units.specs.declared.command.UnitCommand.{UnitCommand}
+
+-- where a connection stands; one that is not there is as a closed one
+abbrev pub standing_of : Option Link → Standing
+standing_of None = standing.Closed
+standing_of (Some l) = l.standing
+
+abbrev pub standing_in : ℕ → List Link → Standing
+standing_in n links = standing_of (link_of n links)
+
+-- the tasks of its session; none where it is not served
+abbrev pub tasks_at : Standing → List Task
+tasks_at (standing.Serving v) = v.session.tasks
+tasks_at s = []
+
+abbrev pub tasks_in : ℕ → List Link → List Task
+tasks_in n links = tasks_at (standing_in n links)
+
+-- the PDUs that have their turn as one comes on their connection
+abbrev pub step_turns : Target → Standing → Pdu → List Turned
+step_turns t (standing.Serving v) pdu =
+    turns_at (place_of v.session.discovers v.session.numbers.exp.0 pdu.head) v.session t.units t.listing v.held pdu
+step_turns t s pdu = []
+
+abbrev pub link_turns : Target → ℕ → Option Link → Pdu → List Turned
+link_turns t m None p = []
+link_turns t m (Some l) p = step_turns (aside m t) l.standing p
+
+abbrev pub event_turns : ℕ → Target → Event → List Turned
+event_turns n t (Whole m p) = if m == n then link_turns t m (link_of m t.links) p else []
+event_turns n t e = []
+
+-- all PDUs of a connection that had their turn, in order; of events the newest stands first
+abbrev pub turns_on : ℕ → TargetConfig → List Event → List Turned
+turns_on n c [] = []
+turns_on n c (e ∷ es) = turns_on n c es ++ event_turns n (state_after c es) e
+
+-- the commands that they brought, in order
+abbrev pub came_on : ℕ → TargetConfig → List Event → List UnitCommand
+came_on n c es = flat_map came_in (turns_on n c es)
+
+-- the commands that the units execute as a PDU of the connection comes
+abbrev pub event_executed : ℕ → Target → Event → List UnitCommand
+event_executed n t (Whole m p) = if m == n then map command_of_request (event_requests t (Whole m p)) else []
+event_executed n t e = []
+
+abbrev pub executed_on : ℕ → TargetConfig → List Event → List UnitCommand
+executed_on n c [] = []
+executed_on n c (e ∷ es) = executed_on n c es ++ event_executed n (state_after c es) e
+
+-- the commands that a PDU of the connection ends before they are executed
+abbrev pub step_ended : Target → Standing → Pdu → List UnitCommand
+step_ended t (standing.Serving v) pdu =
+    ended_at (place_of v.session.discovers v.session.numbers.exp.0 pdu.head) v.session t.units t.listing v.held pdu
+step_ended t s pdu = []
+
+abbrev pub link_ended : Target → ℕ → Option Link → Pdu → List UnitCommand
+link_ended t m None p = []
+link_ended t m (Some l) p = step_ended (aside m t) l.standing p
+
+-- the tasks that resets take, one after another
+abbrev pub taken_by_all : List Reset → List Task → List Task
+taken_by_all [] ts = []
+taken_by_all (reset ∷ resets) ts = taken_by reset ts ++ taken_by_all resets (spared reset ts)
+
+-- those of a session of this initiator port
+abbrev pub tasks_under : List ℕ → Standing → List Task
+tasks_under nexus (standing.Serving v) = if bytes_eq v.session.nexus nexus then v.session.tasks else []
+tasks_under nexus s = []
+
+-- a login that opens a session ends the one of the same initiator port (RFC 7143, section 6.3.5)
+abbrev pub taken_by_login : Verdict → Standing → List Task
+taken_by_login (verdict.Done s) other = tasks_under (nexus_of s.who) other
+taken_by_login v other = []
+
+-- what a PDU of a connection takes from another one: by resets, or by a login
+abbrev pub step_taken : Target → Standing → Pdu → Standing → List Task
+step_taken t (standing.LoggingIn p) pdu other = taken_by_login (turned t.rules t.handle p pdu t.words).answer.verdict other
+step_taken t (standing.Serving v) pdu other = taken_by_all (received v.session t.units t.listing v.held pdu).session.resets (tasks_at other)
+step_taken t s pdu other = []
+
+abbrev pub link_taken : Target → ℕ → Option Link → Pdu → Standing → List Task
+link_taken t m None p other = []
+link_taken t m (Some l) p other = step_taken (aside m t) l.standing p other
+
+-- the commands that end as an event happens: all, where the connection is gone or a malformed PDU closes it
+abbrev pub event_ended : ℕ → Target → Event → List UnitCommand
+event_ended n t (Left m) = if m == n then commands_of (tasks_in n t.links) else []
+event_ended n t (Malformed m) = if m == n then commands_of (tasks_in n t.links) else []
+event_ended n t (Whole m p) =
+    if m == n then link_ended t m (link_of m t.links) p
+    else commands_of (link_taken t m (link_of m t.links) p (standing_in n t.links))
+event_ended n t e = []
+
+abbrev pub ended_on : ℕ → TargetConfig → List Event → List UnitCommand
+ended_on n c [] = []
+ended_on n c (e ∷ es) = ended_on n c es ++ event_ended n (state_after c es) e
+
+-- the tasks and commands that wait now
+abbrev pub tasks_on : ℕ → TargetConfig → List Event → List Task
+tasks_on n c es = tasks_in n (state_after c es).links
+
+abbrev pub waiting_on : ℕ → TargetConfig → List Event → List UnitCommand
+waiting_on n c es = commands_of (tasks_on n c es)
+
+-- commands are executed in the order in which they came, which is that of their turns
+abbrev pub ExecutedInOrder : Type 0
+ExecutedInOrder = (n : ℕ) (c : TargetConfig) (es : List Event) → Within (executed_on n c es ++ waiting_on n c es) (came_on n c es)
+
+-- each command that came was executed once, or ended once, or waits, whatever is counted; and no other was executed
+abbrev pub EachIsAccounted : Type 0
+EachIsAccounted =
+    (n : ℕ) (c : TargetConfig) (es : List Event) (f : UnitCommand → Bool)
+    → count_by f (came_on n c es) ≡ count_by f (executed_on n c es) + (count_by f (ended_on n c es) + count_by f (waiting_on n c es))
+
+-- a turn ends what was before; where none was, it is as before
+abbrev pub unless_turns : List Turned → Bool → Bool
+unless_turns [] was = was
+unless_turns (t ∷ ts) was = false
+
+abbrev pub or_taken : List Task → Bool → Bool
+or_taken [] was = was
+or_taken (t ∷ ts) was = true
+
+-- another connection took tasks since the last PDU that had its turn
+abbrev pub hit_by : ℕ → Target → Event → Bool → Bool
+hit_by n t (Whole m p) was =
+    if m == n then unless_turns (link_turns t m (link_of m t.links) p) was
+    else or_taken (link_taken t m (link_of m t.links) p (standing_in n t.links)) was
+hit_by n t e was = was
+
+abbrev pub was_hit : ℕ → TargetConfig → List Event → Bool
+was_hit n c [] = false
+was_hit n c (e ∷ es) = hit_by n (state_after c es) e (was_hit n c es)
+
+-- a command is executed at once when those before it are and its data are complete: the first that waits lacks data. Where another
+-- connection took commands from among those that wait, this is so from the next PDU on that has its turn
+abbrev pub ReadyAreExecuted : Type 0
+ReadyAreExecuted = (n : ℕ) (c : TargetConfig) (es : List Event) → was_hit n c es ≡ false → is_stuck (tasks_on n c es) ≡ true

@@ -1,0 +1,125 @@
+-- The PDUs of a session that had their turn, and what became of its commands by each of them.
+use Rattle.std.specs.Prelude.{ℕ, Option, Some, None, is_some, List, [], ◌∷◌, ◌++◌, bytes_eq, filter, map, ◌==◌, if◌then◌else◌}
+use Rattle.std.specs.List.{flat_map, slice_get}
+use Rattle.oi_pdu.specs.declared.codec.Pdu.{Pdu}
+use Rattle.oi_pdu.specs.declared.header.Header.{Header}
+use Rattle.oi_pdu.specs.declared.header.Header.TheVariants as head
+use Rattle.oi_pdu.specs.declared.header.TaskManagement.{TaskManagement}
+use Rattle.oi_sendtargets.specs.declared.found.Found.{Found}
+use Rattle.oi_target_session.specs.Arrivals.{Held, advanced, is_held}
+use Rattle.oi_target_session.specs.Executions.{requests_at}
+use Rattle.oi_target_session.specs.Sessions.{Session, handled, served}
+use Rattle.oi_target_session.specs.declared.fed.Fed.{Fed}
+use Rattle.oi_target_session.specs.declared.fed.Fed.TheVariants.{Going, Closed}
+use Rattle.oi_target_session.specs.declared.place.Place.{Place}
+use Rattle.oi_target_session.specs.declared.place.Place.TheVariants.{Now, InTurn, Early, Outside}
+use Rattle.oi_target_session.specs.declared.reset.Reset.{Reset}
+use Rattle.oi_target_session.specs.declared.reset.Reset.TheVariants.{Unit as OfUnit, Whole}
+use Rattle.oi_target_tasks.specs.Tasks.{unit_command, waits_as}
+use Rattle.oi_target_tasks.specs.declared.task.Task.{Task}
+use Rattle.oi_units.specs.Runs.{Request}
+use Rattle.oi_units.specs.Units.{unit_named}
+use Rattle.oi_units.specs.declared.command.UnitCommand.{UnitCommand}
+use Rattle.oi_units.specs.declared.unit.LogicalUnit.{LogicalUnit}
+
+-- a PDU that had its turn, and what it found: the session, the units, and what a discovery is told
+pub record Turned : Type 0 where
+  pub session : Session
+  pub units : List LogicalUnit
+  pub listing : List Found
+  pub pdu : Pdu
+
+abbrev pub turned_at : Session → List LogicalUnit → List Found → Pdu → Turned
+turned_at s units listing p = record { session = s; units = units; listing = listing; pdu = p }
+
+-- where the connection stays
+abbrev pub turns_if : Fed → List Turned → List Turned
+turns_if Closed turns = []
+turns_if Going turns = turns
+
+-- a PDU, and those that were held and follow it at once while the connection stays
+abbrev pub in_turn_turns : Session → List LogicalUnit → List Found → Pdu → Held → List Turned
+in_turn_turns s units listing p [] = turned_at (advanced s) units listing p ∷ []
+in_turn_turns s units listing p (None ∷ held) = turned_at (advanced s) units listing p ∷ []
+in_turn_turns s units listing p (Some next ∷ held) =
+    turned_at (advanced s) units listing p
+    ∷ turns_if (served (advanced s) units listing p).fed
+    (in_turn_turns (served (advanced s) units listing p).session (served (advanced s) units listing p).units listing next held)
+
+-- the PDUs that have their turn as one comes; none where it is held for later
+abbrev pub turns_at : Place → Session → List LogicalUnit → List Found → Held → Pdu → List Turned
+turns_at Now s units listing held p = turned_at s units listing p ∷ []
+turns_at InTurn s units listing held p = in_turn_turns s units listing p held
+turns_at (Early at) s units listing held p = []
+turns_at Outside s units listing held p = []
+
+abbrev pub command_of_task : Task → UnitCommand
+command_of_task t = t.command
+
+abbrev pub commands_of : List Task → List UnitCommand
+commands_of ts = map command_of_task ts
+
+-- where the connection stays
+abbrev pub commands_if : Fed → List UnitCommand → List UnitCommand
+commands_if Closed cs = []
+commands_if Going cs = cs
+
+-- the command that a PDU brings
+abbrev pub brought : Header → List UnitCommand
+brought (head.ScsiCommand h) = unit_command h ∷ []
+brought h = []
+
+-- a PDU that closes the connection brings none
+abbrev pub fed_by : Turned → Fed
+fed_by t = (handled t.session t.units t.listing t.pdu.head t.pdu.payload).fed
+
+abbrev pub came_in : Turned → List UnitCommand
+came_in t = commands_if (fed_by t) (brought t.pdu.head)
+
+-- the tasks that a reset takes (SAM-5, section 7.7)
+abbrev pub taken_by : Reset → List Task → List Task
+taken_by (OfUnit lun) tasks = filter (λ t. bytes_eq t.command.lun lun) tasks
+taken_by Whole tasks = tasks
+
+-- the tasks that ABORT TASK, LOGICAL UNIT RESET or TARGET WARM RESET takes (RFC 7143, section 11.5.1)
+abbrev pub taken_as : Session → List LogicalUnit → TaskManagement → List Task
+taken_as s units h =
+    if h.function == 1 then filter (waits_as h.referenced.0) s.tasks
+    else (if h.function == 5 then (if is_some (unit_named units h.lun) then taken_by (OfUnit h.lun) s.tasks else [])
+    else (if h.function == 6 then taken_by Whole s.tasks
+    else []))
+
+abbrev pub taken_in : Session → List LogicalUnit → Header → List Task
+taken_in s units (head.TaskManagement h) = taken_as s units h
+taken_in s units h = []
+
+-- the commands that a PDU ends before they are executed: all, where it closes the connection
+abbrev pub ended_as : Fed → Turned → List UnitCommand
+ended_as Closed t = commands_of t.session.tasks
+ended_as Going t = commands_of (taken_in t.session t.units t.pdu.head)
+
+abbrev pub ended_in : Turned → List UnitCommand
+ended_in t = ended_as (fed_by t) t
+
+-- a PDU that has no place closes the connection: one outside the window, or a second one of its number
+abbrev pub unplaced : Place → Session → Held → List UnitCommand
+unplaced Now s held = []
+unplaced InTurn s held = []
+unplaced (Early at) s held = if is_held (slice_get held at) then commands_of s.tasks else []
+unplaced Outside s held = commands_of s.tasks
+
+-- the commands that end as a PDU comes
+abbrev pub ended_at : Place → Session → List LogicalUnit → List Found → Held → Pdu → List UnitCommand
+ended_at place s units listing held p = flat_map ended_in (turns_at place s units listing held p) ++ unplaced place s held
+
+-- the commands that are executed as a PDU comes
+abbrev pub command_of_request : Request → UnitCommand
+command_of_request r = r.command
+
+abbrev pub executed_at : Place → Session → List LogicalUnit → List Found → Held → Pdu → List UnitCommand
+executed_at place s units listing held p = map command_of_request (requests_at place s units listing held p)
+
+-- the tasks that wait, where the connection stays
+abbrev pub tasks_if : Fed → List Task → List Task
+tasks_if Closed ts = []
+tasks_if Going ts = ts

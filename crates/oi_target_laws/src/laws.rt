@@ -1,0 +1,11 @@
+ghost use Rattle.oi_target_laws.specs.Histories.{EachIsAccounted, ExecutedInOrder, ReadyAreExecuted};
+
+/// On each connection the order of execution is the order in which its commands came, which is that of their turns, and each command that
+/// came was executed once, or was ended once before by task management (RFC 7143, section 11.5; SAM-5, section 7.7) or with its session or
+/// connection, or still waits. It is executed at once when those before it are and its data are complete, but for those behind a command
+/// that another session's reset took: these are executed when the next PDU of their connection has its turn.
+pub fn commands_keep_their_order()
+    ensures order { ExecutedInOrder }
+    ensures accounted { EachIsAccounted }
+    ensures ready { ReadyAreExecuted }
+{}
