@@ -1,4 +1,5 @@
 pub mod Accounts
+pub mod Conflicts
 pub mod Handles
 pub mod Idle
 pub mod Moves

@@ -1,3 +1,4 @@
+pub mod Conflicts
 pub mod Histories
 pub mod Turned
 pub mod Within

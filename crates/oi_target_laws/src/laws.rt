@@ -1,3 +1,4 @@
+ghost use Rattle.oi_target_laws.specs.Conflicts.{ConflictIsExact, ConflictsChangeNothing};
 ghost use Rattle.oi_target_laws.specs.Histories.{EachIsAccounted, ExecutedInOrder, ReadyAreExecuted};
 
 /// On each connection the order of execution is the order in which its commands came, which is that of their turns, and each command that
@@ -8,4 +9,11 @@ pub fn commands_keep_their_order()
     ensures order { ExecutedInOrder }
     ensures accounted { EachIsAccounted }
     ensures ready { ReadyAreExecuted }
+{}
+
+/// A command of a unit's disk is answered RESERVATION CONFLICT exactly where a reservation of another nexus forbids what it wants, and
+/// changes nothing then (SPC-4, section 5.13).
+pub fn conflicts_are_exact()
+    ensures status { ConflictIsExact }
+    ensures units { ConflictsChangeNothing }
 {}
