@@ -14,7 +14,7 @@ use Rattle.oi_target.specs.declared.config.TargetConfig.{TargetConfig}
 use Rattle.oi_target.specs.declared.link.Link.{Link}
 use Rattle.oi_target.specs.declared.link.Standing.{Standing}
 use Rattle.oi_target.specs.declared.link.Standing.TheVariants as standing
-use Rattle.oi_target_laws.proofs.Idle.{OneIsBusy, busy_behind, busy_map, busy_placed, busy_without, idle_tasks}
+use Rattle.oi_target_laws.proofs.Idle.{OneIsBusy, busy_behind, busy_map, busy_placed, busy_without, idle_tasks, is_serving}
 use Rattle.oi_target_laws.proofs.Moves.{Moves, ends, moves_on, stays}
 use Rattle.oi_target_laws.proofs.Steps.{other_moves, other_stuck, own_moves, own_stuck, step_busy}
 use Rattle.oi_target_laws.specs.Histories.{EachIsAccounted, ExecutedInOrder, ReadyAreExecuted, came_on, ended_on, event_ended, event_executed, event_turns, executed_on, hit_by, link_ended, link_taken, link_turns, or_taken, standing_in, standing_of, step_turns, tasks_at, tasks_in, tasks_on, turns_on, unless_turns, waiting_on, was_hit}
@@ -37,8 +37,14 @@ bare_at (Some l) = shut_tasks l.standing
 bare_tasks : (n : ℕ) (ls : List Link) → tasks_in n (map bare_link ls) ≡ tasks_in n ls
 bare_tasks n ls = ap (λ (o : Option Link). tasks_at (standing_of o)) (link_map bare_link (λ l. refl) n ls) ∙ bare_at (link_of n ls)
 
+shut_idle : (s : Standing) → is_serving s ≡ false → is_serving (shut s) ≡ false
+shut_idle (standing.LoggingIn p) idle = refl
+shut_idle (standing.Serving v) idle = idle
+shut_idle standing.Ended idle = refl
+shut_idle standing.Closed idle = refl
+
 bare_busy : (n : ℕ) (ls : List Link) → OneIsBusy n ls → OneIsBusy n (map bare_link ls)
-bare_busy n ls i = busy_map n bare_link (λ l. refl) (λ l none. shut_tasks l.standing ∙ none) ls i
+bare_busy n ls i = busy_map n bare_link (λ l. refl) (λ l idle. shut_idle l.standing idle) ls i
 
 -- the connection itself, in the place in which it stood
 own_tasks : (n : ℕ) (s : Standing) (ls : List Link) → IsAside n ls → tasks_in n (map bare_link (placed (link_at n no_bytes s) ls)) ≡ tasks_at s
@@ -142,7 +148,7 @@ event_moves n t (Malformed m) i =
     (λ is. subst (λ (k : ℕ). tasks_in n (aside k t).links ≡ []) (sym (eqb-true m n is)) (aside_tasks n t))
     (λ is. ap tasks_at (aside_standing n m t is))
 
--- one of each number is busy
+-- one of each number has a session
 
 link_busy : (n m : ℕ) (t : Target) (p : Pdu) (o : Option Link) → OneIsBusy n t.links → OneIsBusy n (heard_of t m o p).target.links
 link_busy n m t p None i = i
@@ -158,7 +164,7 @@ event_busy n t (Told listing) i = i
 event_busy n t (Whole m p) i = link_busy n m t p (link_of m t.links) i
 event_busy n t (Malformed m) i = busy_placed n (closed_link m) t.links i
 
-all_busy : (n : ℕ) (c : TargetConfig) (es : List Event) → OneIsBusy n (state_after c es).links
+pub all_busy : (n : ℕ) (c : TargetConfig) (es : List Event) → OneIsBusy n (state_after c es).links
 all_busy n c [] = tt
 all_busy n c (e ∷ es) = event_busy n (state_after c es) e (all_busy n c es)
 

@@ -1,7 +1,9 @@
 pub mod Accounts
 pub mod Conflicts
+pub mod Counting
 pub mod Handles
 pub mod Idle
+pub mod Keeps
 pub mod Moves
 pub mod Steps
 pub mod Turns

@@ -2,6 +2,7 @@
 use Rattle.std.proofs.Common.{ℕ, Bool, true, false, ◌≡◌, ◌∙◌, Option, Some, None, List, [], ◌∷◌, ◌++◌, bytes_eq, filter, flat_map, map, not, cond, refl, ap, sym, subst, append-nil, if◌then◌else◌, ◌==◌}
 use Rattle.std.proofs.lemmas.List.{map-append}
 use Rattle.oi_pdu.specs.declared.codec.Pdu.{Pdu}
+use Rattle.oi_target.proofs.Numbered.{true_not}
 use Rattle.oi_target.proofs.Placed.{link_map, over}
 use Rattle.oi_target.specs.Runs.{step_requests}
 use Rattle.oi_target.specs.Steps.{logged_in_by, serving_by, stepped, with_words}
@@ -9,7 +10,7 @@ use Rattle.oi_target.specs.Targets.{Target, ended_by, ended_standing, link_of, n
 use Rattle.oi_target.specs.declared.link.Link.{Link}
 use Rattle.oi_target.specs.declared.link.Standing.{Standing}
 use Rattle.oi_target.specs.declared.link.Standing.TheVariants as standing
-use Rattle.oi_target_laws.proofs.Idle.{OneIsBusy, busy_map}
+use Rattle.oi_target_laws.proofs.Idle.{OneIsBusy, busy_map, is_serving}
 use Rattle.oi_target_laws.proofs.Handles.{spares}
 use Rattle.oi_target_laws.proofs.Moves.{Moves, ends, moves_on, stays}
 use Rattle.oi_target_laws.proofs.Turns.{received_moves, received_stuck}
@@ -73,10 +74,10 @@ own_stuck t standing.Closed p was = refl
 
 -- those of another one
 
-over_tasks : (g : Link → Link) (h : Standing → Standing) → ((l : Link) → (g l).standing ≡ h l.standing) → h standing.Closed ≡ standing.Closed → (o : Option Link)
+over_standing : (g : Link → Link) (h : Standing → Standing) → ((l : Link) → (g l).standing ≡ h l.standing) → h standing.Closed ≡ standing.Closed → (o : Option Link)
     → standing_of (over g o) ≡ h (standing_of o)
-over_tasks g h is closed None = sym closed
-over_tasks g h is closed (Some l) = is l
+over_standing g h is closed None = sym closed
+over_standing g h is closed (Some l) = is l
 
 reset_at : (r : Reset) (s : Standing) → tasks_at (reset_standing r s) ≡ spared r (tasks_at s)
 reset_at (OfUnit lun) (standing.LoggingIn p) = refl
@@ -90,7 +91,7 @@ reset_at Whole standing.Closed = refl
 reset_tasks : (n : ℕ) (r : Reset) (ls : List Link) → tasks_in n (map (reset_link r) ls) ≡ spared r (tasks_in n ls)
 reset_tasks n r ls =
     ap (λ (o : Option Link). tasks_at (standing_of o)) (link_map (reset_link r) (λ l. refl) n ls)
-    ∙ ap tasks_at (over_tasks (reset_link r) (reset_standing r) (λ l. refl) refl (link_of n ls))
+    ∙ ap tasks_at (over_standing (reset_link r) (reset_standing r) (λ l. refl) refl (link_of n ls))
     ∙ reset_at r (standing_in n ls)
 
 resets_moves : (n : ℕ) (resets : List Reset) (ls : List Link)
@@ -116,9 +117,9 @@ ended_at_login nexus (standing.Serving v) = go (bytes_eq v.session.nexus nexus) 
 ended_at_login nexus standing.Ended = stays []
 ended_at_login nexus standing.Closed = stays []
 
-ended_standings : (n : ℕ) (nexus : List ℕ) (ls : List Link) → standing_in n (map (ended_by nexus) ls) ≡ ended_standing nexus (standing_in n ls)
+pub ended_standings : (n : ℕ) (nexus : List ℕ) (ls : List Link) → standing_in n (map (ended_by nexus) ls) ≡ ended_standing nexus (standing_in n ls)
 ended_standings n nexus ls =
-    ap standing_of (link_map (ended_by nexus) (λ l. refl) n ls) ∙ over_tasks (ended_by nexus) (ended_standing nexus) (λ l. refl) refl (link_of n ls)
+    ap standing_of (link_map (ended_by nexus) (λ l. refl) n ls) ∙ over_standing (ended_by nexus) (ended_standing nexus) (λ l. refl) refl (link_of n ls)
 
 login_moves : (n : ℕ) (t : Target) (a : Answer) (v : Verdict)
     → Moves (commands_of (tasks_in n t.links)) [] [] (commands_of (taken_by_login v (standing_in n t.links))) (commands_of (tasks_in n (logged_in_by t a v).target.links))
@@ -192,29 +193,28 @@ other_stuck n t (standing.Serving v) p none was =
 other_stuck n t standing.Ended p none was = was
 other_stuck n t standing.Closed p none was = was
 
--- one of each number is busy
+-- one of each number has a session
 
-reset_idle : (r : Reset) (s : Standing) → tasks_at s ≡ [] → tasks_at (reset_standing r s) ≡ []
-reset_idle (OfUnit lun) s none = reset_at (OfUnit lun) s ∙ ap (λ (z : List Task). spared (OfUnit lun) z) none
-reset_idle Whole s none = reset_at Whole s
+reset_idle : (r : Reset) (s : Standing) → is_serving s ≡ false → is_serving (reset_standing r s) ≡ false
+reset_idle r (standing.LoggingIn p) idle = refl
+reset_idle r (standing.Serving v) idle = idle
+reset_idle r standing.Ended idle = refl
+reset_idle r standing.Closed idle = refl
 
-ended_idle : (nexus : List ℕ) (s : Standing) → tasks_at s ≡ [] → tasks_at (ended_standing nexus s) ≡ []
-ended_idle nexus (standing.LoggingIn p) none = refl
-ended_idle nexus (standing.Serving v) none = go (bytes_eq v.session.nexus nexus) where
-  go : (b : Bool) → tasks_at (if b then standing.Ended else standing.Serving v) ≡ []
-  go true = refl
-  go false = none
-ended_idle nexus standing.Ended none = refl
-ended_idle nexus standing.Closed none = refl
+ended_idle : (nexus : List ℕ) (s : Standing) → is_serving s ≡ false → is_serving (ended_standing nexus s) ≡ false
+ended_idle nexus (standing.LoggingIn p) idle = refl
+ended_idle nexus (standing.Serving v) idle = true_not idle
+ended_idle nexus standing.Ended idle = refl
+ended_idle nexus standing.Closed idle = refl
 
 resets_busy : (n : ℕ) (resets : List Reset) (ls : List Link) → OneIsBusy n ls → OneIsBusy n (reset_links resets ls)
 resets_busy n [] ls i = i
-resets_busy n (r ∷ rs) ls i = resets_busy n rs (map (reset_link r) ls) (busy_map n (reset_link r) (λ l. refl) (λ l none. reset_idle r l.standing none) ls i)
+resets_busy n (r ∷ rs) ls i = resets_busy n rs (map (reset_link r) ls) (busy_map n (reset_link r) (λ l. refl) (λ l idle. reset_idle r l.standing idle) ls i)
 
 login_busy : (n : ℕ) (t : Target) (a : Answer) (v : Verdict) → OneIsBusy n t.links → OneIsBusy n (logged_in_by t a v).target.links
 login_busy n t a verdict.Going i = i
 login_busy n t a verdict.Closed i = i
-login_busy n t a (verdict.Done s) i = busy_map n (ended_by (nexus_of s.who)) (λ l. refl) (λ l none. ended_idle (nexus_of s.who) l.standing none) t.links i
+login_busy n t a (verdict.Done s) i = busy_map n (ended_by (nexus_of s.who)) (λ l. refl) (λ l idle. ended_idle (nexus_of s.who) l.standing idle) t.links i
 
 pub step_busy : (n : ℕ) (t : Target) (s : Standing) (p : Pdu) → OneIsBusy n t.links → OneIsBusy n (stepped t s p).target.links
 step_busy n t (standing.LoggingIn login) p i =

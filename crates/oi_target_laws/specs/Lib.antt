@@ -1,4 +1,5 @@
 pub mod Conflicts
 pub mod Histories
+pub mod Numbers
 pub mod Turned
 pub mod Within

@@ -1,5 +1,6 @@
 ghost use Rattle.oi_target_laws.specs.Conflicts.{ConflictIsExact, ConflictsChangeNothing};
 ghost use Rattle.oi_target_laws.specs.Histories.{EachIsAccounted, ExecutedInOrder, ReadyAreExecuted};
+ghost use Rattle.oi_target_laws.specs.Numbers.{NextIsExpected, NumbersSucceed, SameAreEqual};
 
 /// On each connection the order of execution is the order in which its commands came, which is that of their turns, and each command that
 /// came was executed once, or was ended once before by task management (RFC 7143, section 11.5; SAM-5, section 7.7) or with its session or
@@ -16,4 +17,12 @@ pub fn commands_keep_their_order()
 pub fn conflicts_are_exact()
     ensures status { ConflictIsExact }
     ensures units { ConflictsChangeNothing }
+{}
+
+/// The PDUs of a session that take a number (CmdSN) have their turn in the order of their numbers, with none left out and none twice, from
+/// the number on with which the login opened the session; and the session expects the one behind the last (RFC 7143, section 4.2.2.1).
+pub fn numbers_succeed()
+    ensures order { NumbersSucceed }
+    ensures expected { NextIsExpected }
+    ensures equal { SameAreEqual }
 {}
