@@ -16,7 +16,7 @@ use Rattle.oi_target.specs.declared.link.Standing.{Standing}
 use Rattle.oi_target.specs.declared.link.Standing.TheVariants as standing
 use Rattle.oi_target_laws.proofs.Idle.{OneIsBusy, busy_behind, busy_map, busy_placed, busy_without, idle_tasks, is_serving}
 use Rattle.oi_target_laws.proofs.Moves.{Moves, ends, moves_on, stays}
-use Rattle.oi_target_laws.proofs.Steps.{other_moves, other_stuck, own_moves, own_stuck, step_busy}
+use Rattle.oi_target_laws.proofs.Steps.{other_moves, other_stuck, over_standing, own_moves, own_stuck, step_busy}
 use Rattle.oi_target_laws.specs.Histories.{EachIsAccounted, ExecutedInOrder, ReadyAreExecuted, came_on, ended_on, event_ended, event_executed, event_turns, executed_on, hit_by, link_ended, link_taken, link_turns, or_taken, standing_in, standing_of, step_turns, tasks_at, tasks_in, tasks_on, turns_on, unless_turns, waiting_on, was_hit}
 use Rattle.oi_target_laws.specs.Turned.{Turned, came_in, command_of_request, commands_of}
 use Rattle.oi_target_tasks.specs.Tasks.{is_stuck}
@@ -30,12 +30,8 @@ shut_tasks (standing.Serving v) = refl
 shut_tasks standing.Ended = refl
 shut_tasks standing.Closed = refl
 
-bare_at : (o : Option Link) → tasks_at (standing_of (over bare_link o)) ≡ tasks_at (standing_of o)
-bare_at None = refl
-bare_at (Some l) = shut_tasks l.standing
-
-bare_tasks : (n : ℕ) (ls : List Link) → tasks_in n (map bare_link ls) ≡ tasks_in n ls
-bare_tasks n ls = ap (λ (o : Option Link). tasks_at (standing_of o)) (link_map bare_link (λ l. refl) n ls) ∙ bare_at (link_of n ls)
+pub bare_standing : (n : ℕ) (ls : List Link) → standing_in n (map bare_link ls) ≡ shut (standing_in n ls)
+bare_standing n ls = ap standing_of (link_map bare_link (λ l. refl) n ls) ∙ over_standing bare_link shut (λ l. refl) refl (link_of n ls)
 
 shut_idle : (s : Standing) → is_serving s ≡ false → is_serving (shut s) ≡ false
 shut_idle (standing.LoggingIn p) idle = refl
@@ -47,26 +43,35 @@ bare_busy : (n : ℕ) (ls : List Link) → OneIsBusy n ls → OneIsBusy n (map b
 bare_busy n ls i = busy_map n bare_link (λ l. refl) (λ l idle. shut_idle l.standing idle) ls i
 
 -- the connection itself, in the place in which it stood
+pub own_standing : (n : ℕ) (s : Standing) (ls : List Link) → IsAside n ls → standing_in n (map bare_link (placed (link_at n no_bytes s) ls)) ≡ shut s
+own_standing n s ls a =
+    bare_standing n (placed (link_at n no_bytes s) ls)
+    ∙ ap (λ (o : Option Link). shut (standing_of o)) (link_placed (link_at n no_bytes s) ls ∙ ap (over (λ l. link_at n no_bytes s)) a.found)
+
 own_tasks : (n : ℕ) (s : Standing) (ls : List Link) → IsAside n ls → tasks_in n (map bare_link (placed (link_at n no_bytes s) ls)) ≡ tasks_at s
-own_tasks n s ls a =
-    bare_tasks n (placed (link_at n no_bytes s) ls)
-    ∙ ap (λ (o : Option Link). tasks_at (standing_of o)) (link_placed (link_at n no_bytes s) ls ∙ ap (over (λ l. link_at n no_bytes s)) a.found)
+own_tasks n s ls a = ap tasks_at (own_standing n s ls a) ∙ shut_tasks s
 
 -- another one
-other_tasks : (n m : ℕ) (s : Standing) (ls : List Link) → (m == n) ≡ false → tasks_in n (map bare_link (placed (link_at m no_bytes s) ls)) ≡ tasks_in n ls
-other_tasks n m s ls apart =
-    bare_tasks n (placed (link_at m no_bytes s) ls) ∙ ap (λ (o : Option Link). tasks_at (standing_of o)) (others_placed n (link_at m no_bytes s) ls apart)
+pub other_standing : (n m : ℕ) (s : Standing) (ls : List Link) → (m == n) ≡ false → standing_in n (map bare_link (placed (link_at m no_bytes s) ls)) ≡ shut (standing_in n ls)
+other_standing n m s ls apart =
+    bare_standing n (placed (link_at m no_bytes s) ls) ∙ ap (λ (o : Option Link). shut (standing_of o)) (others_placed n (link_at m no_bytes s) ls apart)
 
-aside_standing : (n m : ℕ) (t : Target) → (m == n) ≡ false → standing_in n (aside m t).links ≡ standing_in n t.links
+other_tasks : (n m : ℕ) (s : Standing) (ls : List Link) → (m == n) ≡ false → tasks_in n (map bare_link (placed (link_at m no_bytes s) ls)) ≡ tasks_in n ls
+other_tasks n m s ls apart = ap tasks_at (other_standing n m s ls apart) ∙ shut_tasks (standing_in n ls)
+
+pub aside_standing : (n m : ℕ) (t : Target) → (m == n) ≡ false → standing_in n (aside m t).links ≡ standing_in n t.links
 aside_standing n m t apart = ap standing_of (others_placed n (closed_link m) t.links apart)
 
 -- the connection closes
-aside_at : (n : ℕ) (k : Link) (o : Option Link) → k.standing ≡ standing.Closed → tasks_at (standing_of (over (λ l. k) o)) ≡ []
+aside_at : (n : ℕ) (k : Link) (o : Option Link) → k.standing ≡ standing.Closed → standing_of (over (λ l. k) o) ≡ standing.Closed
 aside_at n k None closed = refl
-aside_at n k (Some l) closed = ap tasks_at closed
+aside_at n k (Some l) closed = closed
+
+pub aside_closed : (n : ℕ) (t : Target) → standing_in n (aside n t).links ≡ standing.Closed
+aside_closed n t = ap standing_of (link_placed (closed_link n) t.links) ∙ aside_at n (closed_link n) (link_of n t.links) refl
 
 aside_tasks : (n : ℕ) (t : Target) → tasks_in n (aside n t).links ≡ []
-aside_tasks n t = ap (λ (o : Option Link). tasks_at (standing_of o)) (link_placed (closed_link n) t.links) ∙ aside_at n (closed_link n) (link_of n t.links) refl
+aside_tasks n t = ap tasks_at (aside_closed n t)
 
 -- a new one
 new_tasks : (n m : ℕ) (ls : List Link) → tasks_in n (ls ++ new_link m ∷ []) ≡ tasks_in n ls

@@ -93,10 +93,10 @@ one_counts : (s : Session) (units : List LogicalUnit) (listing : List Found) (p 
 one_counts s units listing p held is are = record {
   succeed = one_number s.discovers s.numbers.exp.0 p is;
   awaits = λ going. record {
-      discovers_is = (served_keeps (advanced s) units listing p).discovers;
-      expects = (served_keeps (advanced s) units listing p).expects ∙ sym (one_behind s.discovers s.numbers.exp.0 p is);
-      ahead = subst (λ (z : ℕ). AreAhead s.discovers z 1 held) (sym (one_behind s.discovers s.numbers.exp.0 p is)) are;
-    };
+    discovers_is = (served_keeps (advanced s) units listing p).discovers;
+    expects = (served_keeps (advanced s) units listing p).expects ∙ sym (one_behind s.discovers s.numbers.exp.0 p is);
+    ahead = subst (λ (z : ℕ). AreAhead s.discovers z 1 held) (sym (one_behind s.discovers s.numbers.exp.0 p is)) are;
+  };
 }
 
 in_turn_counts : (s : Session) (units : List LogicalUnit) (listing : List Found) (p : Pdu) (held : Held) → IsAhead s.discovers s.numbers.exp.0 0 p
@@ -191,12 +191,12 @@ early_counts s units held p number are takes some true = record { succeed = tt; 
 early_counts s units held p number are takes some false = record {
   succeed = tt;
   awaits = λ going. record {
-      discovers_is = refl;
-      expects = refl;
-      ahead = set_ahead s.discovers s.numbers.exp.0 1 p (distance s.numbers.exp.0 number - 1) (padded (distance s.numbers.exp.0 number - 1) held)
-          (record { number = number; takes = takes; far = ahead_again (distance s.numbers.exp.0 number) some })
-          (padded_ahead s.discovers s.numbers.exp.0 1 (suc (distance s.numbers.exp.0 number - 1) - length held) held are);
-    };
+    discovers_is = refl;
+    expects = refl;
+    ahead = set_ahead s.discovers s.numbers.exp.0 1 p (distance s.numbers.exp.0 number - 1) (padded (distance s.numbers.exp.0 number - 1) held)
+        (record { number = number; takes = takes; far = ahead_again (distance s.numbers.exp.0 number) some })
+        (padded_ahead s.discovers s.numbers.exp.0 1 (suc (distance s.numbers.exp.0 number - 1) - length held) held are);
+  };
 }
 
 numbered_counts : (s : Session) (units : List LogicalUnit) (listing : List Found) (held : Held) (p : Pdu) (number : ℕ) → AreAhead s.discovers s.numbers.exp.0 1 held

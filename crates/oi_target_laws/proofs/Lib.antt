@@ -5,5 +5,6 @@ pub mod Handles
 pub mod Idle
 pub mod Keeps
 pub mod Moves
+pub mod Numbering
 pub mod Steps
 pub mod Turns

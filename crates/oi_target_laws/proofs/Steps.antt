@@ -74,7 +74,7 @@ own_stuck t standing.Closed p was = refl
 
 -- those of another one
 
-over_standing : (g : Link → Link) (h : Standing → Standing) → ((l : Link) → (g l).standing ≡ h l.standing) → h standing.Closed ≡ standing.Closed → (o : Option Link)
+pub over_standing : (g : Link → Link) (h : Standing → Standing) → ((l : Link) → (g l).standing ≡ h l.standing) → h standing.Closed ≡ standing.Closed → (o : Option Link)
     → standing_of (over g o) ≡ h (standing_of o)
 over_standing g h is closed None = sym closed
 over_standing g h is closed (Some l) = is l
