@@ -14,7 +14,7 @@ use Rattle.oi_target.specs.declared.config.TargetConfig.{TargetConfig}
 use Rattle.oi_target.specs.declared.link.Link.{Link}
 use Rattle.oi_target.specs.declared.link.Standing.{Standing}
 use Rattle.oi_target.specs.declared.link.Standing.TheVariants as standing
-use Rattle.oi_target_laws.proofs.Idle.{OneIsBusy, busy_behind, busy_map, busy_placed, busy_without, idle_tasks, is_serving}
+use Rattle.oi_target_laws.proofs.Idle.{OneIsBusy, busy_behind, busy_map, busy_placed, busy_without, idle_tasks}
 use Rattle.oi_target_laws.proofs.Moves.{Moves, ends, moves_on, stays}
 use Rattle.oi_target_laws.proofs.Steps.{other_moves, other_stuck, over_standing, own_moves, own_stuck, step_busy}
 use Rattle.oi_target_laws.specs.Histories.{EachIsAccounted, ExecutedInOrder, ReadyAreExecuted, came_on, ended_on, event_ended, event_executed, event_turns, executed_on, hit_by, link_ended, link_taken, link_turns, or_taken, standing_in, standing_of, step_turns, tasks_at, tasks_in, tasks_on, turns_on, unless_turns, waiting_on, was_hit}
@@ -33,14 +33,8 @@ shut_tasks standing.Closed = refl
 pub bare_standing : (n : ℕ) (ls : List Link) → standing_in n (map bare_link ls) ≡ shut (standing_in n ls)
 bare_standing n ls = ap standing_of (link_map bare_link (λ l. refl) n ls) ∙ over_standing bare_link shut (λ l. refl) refl (link_of n ls)
 
-shut_idle : (s : Standing) → is_serving s ≡ false → is_serving (shut s) ≡ false
-shut_idle (standing.LoggingIn p) idle = refl
-shut_idle (standing.Serving v) idle = idle
-shut_idle standing.Ended idle = refl
-shut_idle standing.Closed idle = refl
-
 bare_busy : (n : ℕ) (ls : List Link) → OneIsBusy n ls → OneIsBusy n (map bare_link ls)
-bare_busy n ls i = busy_map n bare_link (λ l. refl) (λ l idle. shut_idle l.standing idle) ls i
+bare_busy n ls i = busy_map n bare_link (λ l. refl) (λ l new. ap shut new) ls i
 
 -- the connection itself, in the place in which it stood
 pub own_standing : (n : ℕ) (s : Standing) (ls : List Link) → IsAside n ls → standing_in n (map bare_link (placed (link_at n no_bytes s) ls)) ≡ shut s
@@ -153,7 +147,7 @@ event_moves n t (Malformed m) i =
     (λ is. subst (λ (k : ℕ). tasks_in n (aside k t).links ≡ []) (sym (eqb-true m n is)) (aside_tasks n t))
     (λ is. ap tasks_at (aside_standing n m t is))
 
--- one of each number has a session
+-- of each number one is busy
 
 link_busy : (n m : ℕ) (t : Target) (p : Pdu) (o : Option Link) → OneIsBusy n t.links → OneIsBusy n (heard_of t m o p).target.links
 link_busy n m t p None i = i

@@ -1,11 +1,12 @@
--- A connection behind another one of its number has no session.
-use Rattle.std.proofs.Common.{ℕ, Bool, true, false, ◌≡◌, ◌∙◌, Some, List, [], ◌∷◌, ◌++◌, map, refl, ap, sym, subst, if◌then◌else◌, ◌==◌}
+-- Of a connection behind another one of its number nothing came.
+use Rattle.std.proofs.Common.{ℕ, Bool, true, false, ◌≡◌, ◌∙◌, ◌⊎◌, inl, inr, Some, List, [], ◌∷◌, ◌++◌, map, refl, ap, sym, subst, if◌then◌else◌, ◌==◌}
 use Rattle.std.proofs.lemmas.Bool.{eq-eqb, eqb-true}
 use Rattle.oi_target.proofs.Numbered.{true_not}
 use Rattle.oi_target.specs.Targets.{link_of, placed, without}
 use Rattle.oi_target.specs.declared.link.Link.{Link}
 use Rattle.oi_target.specs.declared.link.Standing.{Standing}
 use Rattle.oi_target.specs.declared.link.Standing.TheVariants as standing
+use Rattle.oi_target_login.specs.Logins.{fresh}
 use Rattle.oi_target_laws.specs.Histories.{standing_in, standing_of, tasks_at, tasks_in}
 
 -- it has a session
@@ -13,32 +14,42 @@ abbrev pub is_serving : Standing → Bool
 is_serving (standing.Serving v) = true
 is_serving s = false
 
-pub no_tasks : (s : Standing) → is_serving s ≡ false → tasks_at s ≡ []
-no_tasks (standing.LoggingIn p) idle = refl
-no_tasks (standing.Serving v) idle = true_not idle
-no_tasks standing.Ended idle = refl
-no_tasks standing.Closed idle = refl
+-- nothing came of it
+abbrev pub IsNew : Standing → Type 0
+IsNew s = s ≡ standing.LoggingIn (fresh (record { 0 = 1 }))
 
--- those of this number have no session
+-- nothing came of those of this number
 abbrev pub AreIdle : ℕ → List Link → Type 0
 AreIdle n [] = Unit {0}
-AreIdle n (l ∷ ls) = ((l.number == n) ≡ true → is_serving l.standing ≡ false) × AreIdle n ls
+AreIdle n (l ∷ ls) = ((l.number == n) ≡ true → IsNew l.standing) × AreIdle n ls
 
--- all but the first one have none
+-- nothing came of all but the first one
 abbrev pub OneIsBusy : ℕ → List Link → Type 0
 OneIsBusy n ls = AreIdle n (without n ls)
 
-pub idle_standing : (n : ℕ) (ls : List Link) → AreIdle n ls → is_serving (standing_in n ls) ≡ false
-idle_standing n [] i = refl
+pub idle_standing : (n : ℕ) (ls : List Link) → AreIdle n ls → (standing_in n ls ≡ standing.Closed) ⊎ IsNew (standing_in n ls)
+idle_standing n [] i = inl refl
 idle_standing n (l ∷ ls) i = go (l.number == n) refl (idle_standing n ls i.1) where
-  go : (b : Bool) → (l.number == n) ≡ b → is_serving (standing_in n ls) ≡ false → is_serving (standing_in n (l ∷ ls)) ≡ false
-  go true is was = ap (λ (b : Bool). is_serving (standing_of (if b then Some l else link_of n ls))) is ∙ i.0 is
-  go false is was = ap (λ (b : Bool). is_serving (standing_of (if b then Some l else link_of n ls))) is ∙ was
+  go : (b : Bool) → (l.number == n) ≡ b → (standing_in n ls ≡ standing.Closed) ⊎ IsNew (standing_in n ls)
+      → (standing_of (if b then Some l else link_of n ls) ≡ standing.Closed) ⊎ IsNew (standing_of (if b then Some l else link_of n ls))
+  go true is was = inr (i.0 is)
+  go false is was = was
+
+not_serving : (s : Standing) → (s ≡ standing.Closed) ⊎ IsNew s → is_serving s ≡ false
+not_serving s (inl closed) = ap is_serving closed
+not_serving s (inr new) = ap is_serving new
+
+no_tasks : (s : Standing) → (s ≡ standing.Closed) ⊎ IsNew s → tasks_at s ≡ []
+no_tasks s (inl closed) = ap tasks_at closed
+no_tasks s (inr new) = ap tasks_at new
+
+pub idle_serves : (n : ℕ) (ls : List Link) → AreIdle n ls → is_serving (standing_in n ls) ≡ false
+idle_serves n ls i = not_serving (standing_in n ls) (idle_standing n ls i)
 
 pub idle_tasks : (n : ℕ) (ls : List Link) → AreIdle n ls → tasks_in n ls ≡ []
 idle_tasks n ls i = no_tasks (standing_in n ls) (idle_standing n ls i)
 
-idle_behind : (n : ℕ) (k : Link) (ls : List Link) → is_serving k.standing ≡ false → AreIdle n ls → AreIdle n (ls ++ k ∷ [])
+idle_behind : (n : ℕ) (k : Link) (ls : List Link) → IsNew k.standing → AreIdle n ls → AreIdle n (ls ++ k ∷ [])
 idle_behind n k [] none i = (λ is. none, tt)
 idle_behind n k (l ∷ ls) none i = (i.0, idle_behind n k ls none i.1)
 
@@ -69,7 +80,7 @@ later_busy n l ls i = go (l.number == n) i where
   go true h = idle_without n n ls h
   go false h = h.1
 
-pub busy_behind : (n : ℕ) (k : Link) (ls : List Link) → is_serving k.standing ≡ false → OneIsBusy n ls → OneIsBusy n (ls ++ k ∷ [])
+pub busy_behind : (n : ℕ) (k : Link) (ls : List Link) → IsNew k.standing → OneIsBusy n ls → OneIsBusy n (ls ++ k ∷ [])
 busy_behind n k [] none i = idle_without n n (k ∷ []) (λ is. none, tt)
 busy_behind n k (l ∷ ls) none i = first_or n l ls (ls ++ k ∷ []) i (λ h. idle_behind n k ls none h) (λ h. busy_behind n k ls none h)
 
@@ -106,13 +117,13 @@ busy_placed n k (l ∷ ls) i = go (l.number == k.number) refl (λ h. busy_placed
   go false is more = apart is (l.number == n) refl i more
 
 -- all changed
-idle_map : (n : ℕ) (g : Link → Link) → ((l : Link) → (g l).number ≡ l.number) → ((l : Link) → is_serving l.standing ≡ false → is_serving (g l).standing ≡ false) → (ls : List Link)
+idle_map : (n : ℕ) (g : Link → Link) → ((l : Link) → (g l).number ≡ l.number) → ((l : Link) → IsNew l.standing → IsNew (g l).standing) → (ls : List Link)
     → AreIdle n ls → AreIdle n (map g ls)
 idle_map n g keeps idles [] i = tt
 idle_map n g keeps idles (l ∷ ls) i =
     (λ is. idles l (i.0 (ap (λ (z : ℕ). z == n) (sym (keeps l)) ∙ is)), idle_map n g keeps idles ls i.1)
 
-pub busy_map : (n : ℕ) (g : Link → Link) → ((l : Link) → (g l).number ≡ l.number) → ((l : Link) → is_serving l.standing ≡ false → is_serving (g l).standing ≡ false) → (ls : List Link)
+pub busy_map : (n : ℕ) (g : Link → Link) → ((l : Link) → (g l).number ≡ l.number) → ((l : Link) → IsNew l.standing → IsNew (g l).standing) → (ls : List Link)
     → OneIsBusy n ls → OneIsBusy n (map g ls)
 busy_map n g keeps idles [] i = tt
 busy_map n g keeps idles (l ∷ ls) i =

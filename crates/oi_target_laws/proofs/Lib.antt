@@ -2,6 +2,7 @@ pub mod Accounts
 pub mod Conflicts
 pub mod Counting
 pub mod Handles
+pub mod Hearing
 pub mod Idle
 pub mod Keeps
 pub mod Moves

@@ -16,7 +16,7 @@ use Rattle.oi_target.specs.declared.link.Standing.{Standing}
 use Rattle.oi_target.specs.declared.link.Standing.TheVariants as standing
 use Rattle.oi_target_laws.proofs.Accounts.{all_busy, aside_closed, aside_standing, other_standing, own_standing}
 use Rattle.oi_target_laws.proofs.Counting.{AreAhead, Awaits, Counts, behind_join, received_counts, succeed_join}
-use Rattle.oi_target_laws.proofs.Idle.{OneIsBusy, idle_standing, is_serving}
+use Rattle.oi_target_laws.proofs.Idle.{OneIsBusy, idle_serves, is_serving}
 use Rattle.oi_target_laws.proofs.Steps.{ended_standings, over_standing}
 use Rattle.oi_target_laws.specs.Histories.{event_turns, link_turns, standing_in, standing_of, step_turns}
 use Rattle.oi_target_laws.specs.Numbers.{NextIsExpected, NumbersSucceed, Succeed, behind_all, event_opened, first_by, first_on, link_opened, numbers_in, numbers_on, opened_by, session_turns, since, step_opened}
@@ -112,7 +112,7 @@ reset_awaits exp r (standing.Serving v) a = record { discovers_is = refl; expect
 reset_awaits exp r standing.Ended a = tt
 reset_awaits exp r standing.Closed a = tt
 
-reset_in : (n : ℕ) (r : Reset) (ls : List Link) → standing_in n (map (reset_link r) ls) ≡ reset_standing r (standing_in n ls)
+pub reset_in : (n : ℕ) (r : Reset) (ls : List Link) → standing_in n (map (reset_link r) ls) ≡ reset_standing r (standing_in n ls)
 reset_in n r ls = ap standing_of (link_map (reset_link r) (λ l. refl) n ls) ∙ over_standing (reset_link r) (reset_standing r) (λ l. refl) refl (link_of n ls)
 
 resets_await : (exp n : ℕ) (resets : List Reset) (ls : List Link) → AwaitsAt exp (standing_in n ls) → AwaitsAt exp (standing_in n (reset_links resets ls))
@@ -207,7 +207,7 @@ event_numbered n t (Joined m) first turns i was =
 event_numbered n t (Left m) first turns i was =
     as_before first turns (standing_in n t.links) (standing_in n (without m t.links)) was
     (λ exp a. lost_awaits exp n m t (standing_in n (without m t.links))
-    (λ is. subst (λ (k : ℕ). is_serving (standing_in n (without k t.links)) ≡ false) (sym (eqb-true m n is)) (idle_standing n (without n t.links) i))
+    (λ is. subst (λ (k : ℕ). is_serving (standing_in n (without k t.links)) ≡ false) (sym (eqb-true m n is)) (idle_serves n (without n t.links) i))
     (λ is. ap standing_of (others_found n m t.links is)) a)
 event_numbered n t (Told listing) first turns i was = as_before first turns (standing_in n t.links) (standing_in n t.links) was (λ exp a. a)
 event_numbered n t (Whole m p) first turns i was = link_numbered n m t p (link_of m t.links) first turns refl was

@@ -2,7 +2,6 @@
 use Rattle.std.proofs.Common.{ℕ, Bool, true, false, ◌≡◌, ◌∙◌, Option, Some, None, List, [], ◌∷◌, ◌++◌, bytes_eq, filter, flat_map, map, not, cond, refl, ap, sym, subst, append-nil, if◌then◌else◌, ◌==◌}
 use Rattle.std.proofs.lemmas.List.{map-append}
 use Rattle.oi_pdu.specs.declared.codec.Pdu.{Pdu}
-use Rattle.oi_target.proofs.Numbered.{true_not}
 use Rattle.oi_target.proofs.Placed.{link_map, over}
 use Rattle.oi_target.specs.Runs.{step_requests}
 use Rattle.oi_target.specs.Steps.{logged_in_by, serving_by, stepped, with_words}
@@ -10,7 +9,7 @@ use Rattle.oi_target.specs.Targets.{Target, ended_by, ended_standing, link_of, n
 use Rattle.oi_target.specs.declared.link.Link.{Link}
 use Rattle.oi_target.specs.declared.link.Standing.{Standing}
 use Rattle.oi_target.specs.declared.link.Standing.TheVariants as standing
-use Rattle.oi_target_laws.proofs.Idle.{OneIsBusy, busy_map, is_serving}
+use Rattle.oi_target_laws.proofs.Idle.{OneIsBusy, busy_map}
 use Rattle.oi_target_laws.proofs.Handles.{spares}
 use Rattle.oi_target_laws.proofs.Moves.{Moves, ends, moves_on, stays}
 use Rattle.oi_target_laws.proofs.Turns.{received_moves, received_stuck}
@@ -193,28 +192,16 @@ other_stuck n t (standing.Serving v) p none was =
 other_stuck n t standing.Ended p none was = was
 other_stuck n t standing.Closed p none was = was
 
--- one of each number has a session
-
-reset_idle : (r : Reset) (s : Standing) → is_serving s ≡ false → is_serving (reset_standing r s) ≡ false
-reset_idle r (standing.LoggingIn p) idle = refl
-reset_idle r (standing.Serving v) idle = idle
-reset_idle r standing.Ended idle = refl
-reset_idle r standing.Closed idle = refl
-
-ended_idle : (nexus : List ℕ) (s : Standing) → is_serving s ≡ false → is_serving (ended_standing nexus s) ≡ false
-ended_idle nexus (standing.LoggingIn p) idle = refl
-ended_idle nexus (standing.Serving v) idle = true_not idle
-ended_idle nexus standing.Ended idle = refl
-ended_idle nexus standing.Closed idle = refl
+-- of each number one is busy
 
 resets_busy : (n : ℕ) (resets : List Reset) (ls : List Link) → OneIsBusy n ls → OneIsBusy n (reset_links resets ls)
 resets_busy n [] ls i = i
-resets_busy n (r ∷ rs) ls i = resets_busy n rs (map (reset_link r) ls) (busy_map n (reset_link r) (λ l. refl) (λ l idle. reset_idle r l.standing idle) ls i)
+resets_busy n (r ∷ rs) ls i = resets_busy n rs (map (reset_link r) ls) (busy_map n (reset_link r) (λ l. refl) (λ l new. ap (reset_standing r) new) ls i)
 
 login_busy : (n : ℕ) (t : Target) (a : Answer) (v : Verdict) → OneIsBusy n t.links → OneIsBusy n (logged_in_by t a v).target.links
 login_busy n t a verdict.Going i = i
 login_busy n t a verdict.Closed i = i
-login_busy n t a (verdict.Done s) i = busy_map n (ended_by (nexus_of s.who)) (λ l. refl) (λ l idle. ended_idle (nexus_of s.who) l.standing idle) t.links i
+login_busy n t a (verdict.Done s) i = busy_map n (ended_by (nexus_of s.who)) (λ l. refl) (λ l new. ap (ended_standing (nexus_of s.who)) new) t.links i
 
 pub step_busy : (n : ℕ) (t : Target) (s : Standing) (p : Pdu) → OneIsBusy n t.links → OneIsBusy n (stepped t s p).target.links
 step_busy n t (standing.LoggingIn login) p i =

@@ -1,5 +1,6 @@
 pub mod Conflicts
 pub mod Histories
+pub mod Logins
 pub mod Numbers
 pub mod Turned
 pub mod Within

@@ -1,5 +1,6 @@
 ghost use Rattle.oi_target_laws.specs.Conflicts.{ConflictIsExact, ConflictsChangeNothing};
 ghost use Rattle.oi_target_laws.specs.Histories.{EachIsAccounted, ExecutedInOrder, ReadyAreExecuted};
+ghost use Rattle.oi_target_laws.specs.Logins.{LoginsAreHeard, ServedHaveProved};
 ghost use Rattle.oi_target_laws.specs.Numbers.{NextIsExpected, NumbersSucceed, SameAreEqual};
 
 /// On each connection the order of execution is the order in which its commands came, which is that of their turns, and each command that
@@ -25,4 +26,11 @@ pub fn numbers_succeed()
     ensures order { NumbersSucceed }
     ensures expected { NextIsExpected }
     ensures equal { SameAreEqual }
+{}
+
+/// A login is a function of the PDUs of its connection, and of what the target had at each. At a target that asks for CHAP each normal
+/// session is that of an initiator which, in the login that led to it, was challenged and gave the right answer (RFC 7143, section 12.1.3).
+pub fn logins_are_heard()
+    ensures logins { LoginsAreHeard }
+    ensures served { ServedHaveProved }
 {}
