@@ -1,4 +1,5 @@
 pub mod Accounts
+pub mod Complete
 pub mod Conflicts
 pub mod Counting
 pub mod Handles

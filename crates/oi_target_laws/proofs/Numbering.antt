@@ -1,5 +1,5 @@
 -- Over all events since a target was made, the numbers of a session succeed.
-use Rattle.std.proofs.Common.{ℕ, Bool, true, false, ◌≡◌, ◌∙◌, Option, Some, None, List, [], ◌∷◌, ◌++◌, bytes_eq, flat_map, map, refl, ap, sym, subst, append-nil, if◌then◌else◌, ◌==◌}
+use Rattle.std.proofs.Common.{ℕ, Bool, true, false, ◌≡◌, ◌∙◌, Option, Some, None, List, [], ◌∷◌, ◌++◌, bytes_eq, flat_map, map, refl, ap, sym, subst, append-nil, append_assoc, if◌then◌else◌, ◌==◌}
 use Rattle.std.proofs.lemmas.Bool.{eqb-true}
 use Rattle.std.proofs.lemmas.List.Concat.{flat_map-append}
 use Rattle.oi_pdu.specs.declared.codec.Pdu.{Pdu}
@@ -18,8 +18,8 @@ use Rattle.oi_target_laws.proofs.Accounts.{all_busy, aside_closed, aside_standin
 use Rattle.oi_target_laws.proofs.Counting.{AreAhead, Awaits, Counts, behind_join, received_counts, succeed_join}
 use Rattle.oi_target_laws.proofs.Idle.{OneIsBusy, idle_serves, is_serving}
 use Rattle.oi_target_laws.proofs.Steps.{ended_standings, over_standing}
-use Rattle.oi_target_laws.specs.Histories.{event_turns, link_turns, standing_in, standing_of, step_turns}
-use Rattle.oi_target_laws.specs.Numbers.{NextIsExpected, NumbersSucceed, Succeed, behind_all, event_opened, first_by, first_on, link_opened, numbers_in, numbers_on, opened_by, session_turns, since, step_opened}
+use Rattle.oi_target_laws.specs.Histories.{event_turns, link_turns, standing_in, standing_of, step_turns, turns_on}
+use Rattle.oi_target_laws.specs.Numbers.{AreLast, NextIsExpected, NumbersSucceed, Succeed, TurnsAreLast, behind_all, event_opened, first_by, first_on, link_opened, numbers_in, numbers_on, opened_by, session_turns, since, step_opened}
 use Rattle.oi_target_laws.specs.Turned.{Turned}
 use Rattle.oi_target_login.specs.Logins.{turned}
 use Rattle.oi_target_login.specs.declared.answer.Answer.{Answer}
@@ -227,3 +227,14 @@ numbers_succeed n c es = (all_numbered n c es).succeed
 pub next_is_expected : NextIsExpected
 next_is_expected n c es v is =
     (subst (λ (z : Standing). AwaitsAt (behind_all (first_on n c es) (numbers_on n c es)) z) is (all_numbered n c es).awaits).expects
+
+last_join : (n : ℕ) (c : TargetConfig) (es : List Event) (new : List Turned) (o : Option ℕ) → AreLast n c es
+    → (before : List Turned) × (turns_on n c es ++ new ≡ before ++ (since o (session_turns n c es) ++ new))
+last_join n c es new None last = (last.before, ap (λ (z : List Turned). z ++ new) last.split ∙ append_assoc last.before (session_turns n c es) new)
+last_join n c es new (Some first) last = (turns_on n c es, refl)
+
+pub turns_are_last : TurnsAreLast
+turns_are_last n c [] = record { before = []; split = refl }
+turns_are_last n c (e ∷ es) =
+    let joined = last_join n c es (event_turns n (state_after c es) e) (event_opened n (state_after c es) e) (turns_are_last n c es) in
+    record { before = joined.0; split = joined.1 }

@@ -1,10 +1,10 @@
 -- The commands of a connection since the target was made, and what became of each of them. All is said of the connections of one number,
 -- which have followed one another where a number was given again.
-use Rattle.std.specs.Prelude.{◌≡◌, ◌+◌, ℕ, Bool, true, false, Option, Some, None, List, [], ◌∷◌, ◌++◌, bytes_eq, count_by, map, ◌==◌, if◌then◌else◌}
+use Rattle.std.specs.Prelude.{◌≡◌, ◌+◌, ℕ, Bool, true, false, Option, Some, None, List, [], ◌∷◌, ◌++◌, bytes_eq, count_by, length, map, nat_lt, not, ◌&&◌, ◌==◌, if◌then◌else◌}
 use Rattle.std.specs.List.{flat_map}
 use Rattle.oi_pdu.specs.declared.codec.Pdu.{Pdu}
 use Rattle.oi_target.specs.Events.{Event, Left, Whole, Malformed, state_after}
-use Rattle.oi_target.specs.Runs.{event_requests}
+use Rattle.oi_target.specs.Runs.{event_requests, requests_of}
 use Rattle.oi_target.specs.Targets.{Target, aside, link_of, nexus_of}
 use Rattle.oi_target.specs.declared.config.TargetConfig.{TargetConfig}
 use Rattle.oi_target.specs.declared.link.Link.{Link}
@@ -20,6 +20,7 @@ use Rattle.oi_target_session.specs.Sessions.{spared}
 use Rattle.oi_target_session.specs.declared.reset.Reset.{Reset}
 use Rattle.oi_target_tasks.specs.Tasks.{is_stuck}
 use Rattle.oi_target_tasks.specs.declared.task.Task.{Task}
+use Rattle.oi_units.specs.Runs.{Request}
 use Rattle.oi_units.specs.declared.command.UnitCommand.{UnitCommand}
 
 -- where a connection stands; one that is not there is as a closed one
@@ -134,6 +135,18 @@ abbrev pub EachIsAccounted : Type 0
 EachIsAccounted =
     (n : ℕ) (c : TargetConfig) (es : List Event) (f : UnitCommand → Bool)
     → count_by f (came_on n c es) ≡ count_by f (executed_on n c es) + (count_by f (ended_on n c es) + count_by f (waiting_on n c es))
+
+-- its data are complete
+abbrev pub is_complete : Request → Bool
+is_complete r = not (r.command.writes && nat_lt (length r.payload) r.command.length)
+
+abbrev pub AreComplete : List Request → Type 0
+AreComplete [] = Unit {0}
+AreComplete (r ∷ rs) = (is_complete r ≡ true) × AreComplete rs
+
+-- no command of any connection is executed before its data are complete
+abbrev pub ExecutedAreComplete : Type 0
+ExecutedAreComplete = (c : TargetConfig) (es : List Event) → AreComplete (requests_of c es)
 
 -- a turn ends what was before; where none was, it is as before
 abbrev pub unless_turns : List Turned → Bool → Bool

@@ -12,7 +12,7 @@ use Rattle.oi_target.specs.declared.link.Link.{Link}
 use Rattle.oi_target.specs.declared.link.Serving.{Serving}
 use Rattle.oi_target.specs.declared.link.Standing.{Standing}
 use Rattle.oi_target.specs.declared.link.Standing.TheVariants as standing
-use Rattle.oi_target_laws.specs.Histories.{event_turns, standing_in}
+use Rattle.oi_target_laws.specs.Histories.{event_turns, standing_in, turns_on}
 use Rattle.oi_target_laws.specs.Turned.{Turned}
 use Rattle.oi_target_login.specs.Logins.{turned}
 use Rattle.oi_target_login.specs.declared.answer.Verdict.{Verdict}
@@ -73,6 +73,16 @@ session_turns n c (e ∷ es) = since (event_opened n (state_after c es) e) (sess
 -- their numbers
 abbrev pub numbers_on : ℕ → TargetConfig → List Event → List ℕ
 numbers_on n c es = flat_map numbers_in (session_turns n c es)
+
+-- what had its turn before them
+pub record AreLast (n : ℕ) (c : TargetConfig) (es : List Event) : Type 0 where
+  pub before : List Turned
+  pub split : turns_on n c es ≡ before ++ session_turns n c es
+
+-- these are the last of all PDUs of the connection that had their turn; those before are of sessions that were opened earlier under its
+-- number
+abbrev pub TurnsAreLast : Type 0
+TurnsAreLast = (n : ℕ) (c : TargetConfig) (es : List Event) → AreLast n c es
 
 -- two numbers are the same one of 32 bits
 abbrev pub IsSame : ℕ → ℕ → Type 0

@@ -1,0 +1,85 @@
+-- No command is executed before its data are complete.
+use Rattle.std.proofs.Common.{ℕ, Bool, true, false, not, ◌≡◌, ◌∙◌, Option, Some, None, List, [], ◌∷◌, ◌++◌, map, refl, ap, if◌then◌else◌}
+use Rattle.oi_pdu.specs.declared.codec.Pdu.{Pdu}
+use Rattle.oi_sendtargets.specs.declared.found.Found.{Found}
+use Rattle.oi_target.specs.Events.{Event, Joined, Left, Told, Whole, Malformed, state_after}
+use Rattle.oi_target.specs.Runs.{event_requests, link_requests, requests_of, step_requests}
+use Rattle.oi_target.specs.Targets.{Target, aside, link_of}
+use Rattle.oi_target.specs.declared.config.TargetConfig.{TargetConfig}
+use Rattle.oi_target.specs.declared.link.Link.{Link}
+use Rattle.oi_target.specs.declared.link.Standing.{Standing}
+use Rattle.oi_target.specs.declared.link.Standing.TheVariants as standing
+use Rattle.oi_target_laws.specs.Histories.{AreComplete, ExecutedAreComplete}
+use Rattle.oi_target_session.specs.Arrivals.{Held, advanced, place_of}
+use Rattle.oi_target_session.specs.Executions.{if_going, in_turn_requests, requests_at, served_requests}
+use Rattle.oi_target_session.specs.Runs.{ready, request_of}
+use Rattle.oi_target_session.specs.Sessions.{Handled, Session, Turn, handled, served}
+use Rattle.oi_target_session.specs.declared.fed.Fed.{Fed}
+use Rattle.oi_target_session.specs.declared.fed.Fed.TheVariants.{Going, Closed}
+use Rattle.oi_target_session.specs.declared.place.Place.{Place}
+use Rattle.oi_target_session.specs.declared.place.Place.TheVariants.{Now, InTurn, Early, Outside}
+use Rattle.oi_target_tasks.specs.Tasks.{is_waiting}
+use Rattle.oi_target_tasks.specs.declared.task.Task.{Task}
+use Rattle.oi_units.specs.Runs.{Request}
+use Rattle.oi_units.specs.declared.unit.LogicalUnit.{LogicalUnit}
+
+both_complete : (first rest : List Request) → AreComplete first → AreComplete rest → AreComplete (first ++ rest)
+both_complete [] rest a b = b
+both_complete (r ∷ rs) rest a b = (a.0, both_complete rs rest a.1 b)
+
+going_complete : (f : Fed) (rs : List Request) → AreComplete rs → AreComplete (if_going f rs)
+going_complete Closed rs a = tt
+going_complete Going rs a = a
+
+ready_complete : (nexus : List ℕ) (ts : List Task) → AreComplete (map (request_of nexus) (ready ts))
+ready_complete nexus [] = tt
+ready_complete nexus (t ∷ ts) = go (is_waiting t) refl (ready_complete nexus ts) where
+  go : (b : Bool) → is_waiting t ≡ b → AreComplete (map (request_of nexus) (ready ts)) → AreComplete (map (request_of nexus) (if b then [] else t ∷ ready ts))
+  go true is was = tt
+  go false is was = (ap not is, was)
+
+served_complete : (s : Session) (units : List LogicalUnit) (listing : List Found) (p : Pdu) → AreComplete (served_requests s units listing p)
+served_complete s units listing p =
+    going_complete h.fed (map (request_of h.session.nexus) (ready h.session.tasks)) (ready_complete h.session.nexus h.session.tasks) where
+      h : Handled
+      h = handled s units listing p.head p.payload
+
+in_turn_complete : (s : Session) (units : List LogicalUnit) (listing : List Found) (p : Pdu) (held : Held) → AreComplete (in_turn_requests s units listing p held)
+in_turn_complete s units listing p [] = served_complete (advanced s) units listing p
+in_turn_complete s units listing p (None ∷ held) = served_complete (advanced s) units listing p
+in_turn_complete s units listing p (Some next ∷ held) =
+    both_complete (served_requests (advanced s) units listing p)
+    (if_going (served (advanced s) units listing p).fed
+    (in_turn_requests (served (advanced s) units listing p).session (served (advanced s) units listing p).units listing next held))
+    (served_complete (advanced s) units listing p)
+    (going_complete (served (advanced s) units listing p).fed
+    (in_turn_requests (served (advanced s) units listing p).session (served (advanced s) units listing p).units listing next held)
+    (in_turn_complete (served (advanced s) units listing p).session (served (advanced s) units listing p).units listing next held))
+
+placed_complete : (place : Place) (s : Session) (units : List LogicalUnit) (listing : List Found) (held : Held) (p : Pdu) → AreComplete (requests_at place s units listing held p)
+placed_complete Now s units listing held p = served_complete s units listing p
+placed_complete InTurn s units listing held p = in_turn_complete s units listing p held
+placed_complete (Early at) s units listing held p = tt
+placed_complete Outside s units listing held p = tt
+
+step_complete : (t : Target) (s : Standing) (p : Pdu) → AreComplete (step_requests t s p)
+step_complete t (standing.LoggingIn login) p = tt
+step_complete t (standing.Serving v) p = placed_complete (place_of v.session.discovers v.session.numbers.exp.0 p.head) v.session t.units t.listing v.held p
+step_complete t standing.Ended p = tt
+step_complete t standing.Closed p = tt
+
+link_complete : (t : Target) (m : ℕ) (o : Option Link) (p : Pdu) → AreComplete (link_requests t m o p)
+link_complete t m None p = tt
+link_complete t m (Some l) p = step_complete (aside m t) l.standing p
+
+event_complete : (t : Target) (e : Event) → AreComplete (event_requests t e)
+event_complete t (Joined m) = tt
+event_complete t (Left m) = tt
+event_complete t (Told listing) = tt
+event_complete t (Whole m p) = link_complete t m (link_of m t.links) p
+event_complete t (Malformed m) = tt
+
+pub executed_are_complete : ExecutedAreComplete
+executed_are_complete c [] = tt
+executed_are_complete c (e ∷ es) =
+    both_complete (requests_of c es) (event_requests (state_after c es) e) (executed_are_complete c es) (event_complete (state_after c es) e)
