@@ -4,10 +4,10 @@ use Rattle.std.proofs.lemmas.Bool.{eqb-true}
 use Rattle.std.proofs.lemmas.List.Concat.{flat_map-append}
 use Rattle.oi_pdu.specs.declared.codec.Pdu.{Pdu}
 use Rattle.oi_target.proofs.Bared.{IsAside, aside_step, is_aside}
-use Rattle.oi_target.proofs.Numbered.{found_before, found_behind, others_found}
+use Rattle.oi_target.proofs.Numbered.{others_found}
 use Rattle.oi_target.proofs.Placed.{link_map, link_placed, others_placed, over}
 use Rattle.oi_target.specs.Events.{Event, Joined, Left, Told, Whole, Malformed, bare_link, happened, heard_of, shut, state_after}
-use Rattle.oi_target.specs.Runs.{event_requests, link_requests}
+use Rattle.oi_target.specs.Runs.{link_requests}
 use Rattle.oi_target.specs.Steps.{Step, stepped}
 use Rattle.oi_target.specs.Targets.{Target, aside, closed_link, link_at, link_of, new_link, no_bytes, placed, without}
 use Rattle.oi_target.specs.declared.config.TargetConfig.{TargetConfig}
@@ -17,7 +17,7 @@ use Rattle.oi_target.specs.declared.link.Standing.TheVariants as standing
 use Rattle.oi_target_laws.proofs.Idle.{OneIsBusy, busy_behind, busy_map, busy_placed, busy_without, idle_tasks}
 use Rattle.oi_target_laws.proofs.Moves.{Moves, ends, moves_on, stays}
 use Rattle.oi_target_laws.proofs.Steps.{other_moves, other_stuck, over_standing, own_moves, own_stuck, step_busy}
-use Rattle.oi_target_laws.specs.Histories.{EachIsAccounted, ExecutedInOrder, ReadyAreExecuted, came_on, ended_on, event_ended, event_executed, event_turns, executed_on, hit_by, link_ended, link_taken, link_turns, or_taken, standing_in, standing_of, step_turns, tasks_at, tasks_in, tasks_on, turns_on, unless_turns, waiting_on, was_hit}
+use Rattle.oi_target_laws.specs.Histories.{EachIsAccounted, ExecutedInOrder, ReadyAreExecuted, came_on, ended_on, event_ended, event_executed, event_turns, executed_on, hit_by, link_ended, link_taken, link_turns, or_taken, standing_in, standing_of, step_turns, tasks_at, tasks_in, turns_on, unless_turns, waiting_on, was_hit}
 use Rattle.oi_target_laws.specs.Turned.{Turned, came_in, command_of_request, commands_of}
 use Rattle.oi_target_tasks.specs.Tasks.{is_stuck}
 use Rattle.oi_target_tasks.specs.declared.task.Task.{Task}

@@ -1,11 +1,10 @@
 -- No command is executed before its data are complete.
-use Rattle.std.proofs.Common.{ℕ, Bool, true, false, not, ◌≡◌, ◌∙◌, Option, Some, None, List, [], ◌∷◌, ◌++◌, map, refl, ap, if◌then◌else◌}
+use Rattle.std.proofs.Common.{ℕ, Bool, true, false, not, ◌≡◌, Option, Some, None, List, [], ◌∷◌, ◌++◌, map, refl, ap, if◌then◌else◌}
 use Rattle.oi_pdu.specs.declared.codec.Pdu.{Pdu}
 use Rattle.oi_sendtargets.specs.declared.found.Found.{Found}
 use Rattle.oi_target.specs.Events.{Event, Joined, Left, Told, Whole, Malformed, state_after}
 use Rattle.oi_target.specs.Runs.{event_requests, link_requests, requests_of, step_requests}
 use Rattle.oi_target.specs.Targets.{Target, aside, link_of}
-use Rattle.oi_target.specs.declared.config.TargetConfig.{TargetConfig}
 use Rattle.oi_target.specs.declared.link.Link.{Link}
 use Rattle.oi_target.specs.declared.link.Standing.{Standing}
 use Rattle.oi_target.specs.declared.link.Standing.TheVariants as standing
@@ -13,7 +12,7 @@ use Rattle.oi_target_laws.specs.Histories.{AreComplete, ExecutedAreComplete}
 use Rattle.oi_target_session.specs.Arrivals.{Held, advanced, place_of}
 use Rattle.oi_target_session.specs.Executions.{if_going, in_turn_requests, requests_at, served_requests}
 use Rattle.oi_target_session.specs.Runs.{ready, request_of}
-use Rattle.oi_target_session.specs.Sessions.{Handled, Session, Turn, handled, served}
+use Rattle.oi_target_session.specs.Sessions.{Handled, Session, handled, served}
 use Rattle.oi_target_session.specs.declared.fed.Fed.{Fed}
 use Rattle.oi_target_session.specs.declared.fed.Fed.TheVariants.{Going, Closed}
 use Rattle.oi_target_session.specs.declared.place.Place.{Place}

@@ -13,7 +13,7 @@ use Rattle.oi_reserve.specs.Outcomes.{reserve_out}
 use Rattle.oi_reserve.specs.Reports.{reserve_in, reserve_in_answer}
 use Rattle.oi_scsi.specs.Commands.{lun_of}
 use Rattle.oi_target_laws.specs.Conflicts.{ConflictIsExact, ConflictsChangeNothing, conflict, is_allowed}
-use Rattle.oi_units.specs.Replies.{conflict_answer, reply_of, reserve_answer}
+use Rattle.oi_units.specs.Replies.{conflict_answer, reserve_answer}
 use Rattle.oi_units.specs.Units.{Asked, asked, asked_of_disk, by_disk, by_table, executed_on, place_of, told_by, unit_list, unit_named}
 use Rattle.oi_units.specs.declared.command.UnitCommand.{UnitCommand}
 use Rattle.oi_units.specs.declared.unit.LogicalUnit.{LogicalUnit}

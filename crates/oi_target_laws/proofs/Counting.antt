@@ -1,5 +1,5 @@
 -- PDUs have their turn in the order of their numbers.
-use Rattle.std.proofs.Common.{ℕ, zero, suc, ◌+◌, ◌-◌, ◌%◌, ◌<◌, ◌^◌, Bool, true, false, not, ◌||◌, ◌≡◌, ◌∙◌, Option, Some, None, List, [], ◌∷◌, ◌++◌, length, replicate, refl, ap, sym, subst, arith, append-nil, flat_map, option_to_list, slice_get, slice_set, nat_lt, ◌==◌, if◌then◌else◌}
+use Rattle.std.proofs.Common.{ℕ, zero, suc, ◌+◌, ◌-◌, Bool, true, false, not, ◌||◌, ◌≡◌, ◌∙◌, Option, Some, None, List, [], ◌∷◌, ◌++◌, length, replicate, refl, ap, sym, subst, arith, flat_map, option_to_list, slice_get, slice_set, nat_lt, ◌==◌, if◌then◌else◌}
 use Rattle.std.proofs.lemmas.Bool.{eqb-true, eqb-false}
 use Rattle.oi_base.specs.Serials.{distance, successor}
 use Rattle.oi_pdu.specs.declared.codec.Pdu.{Pdu}
@@ -7,7 +7,7 @@ use Rattle.oi_pdu.specs.declared.header.Header.{Header}
 use Rattle.oi_pdu.specs.declared.header.Header.TheVariants as head
 use Rattle.oi_sendtargets.specs.declared.found.Found.{Found}
 use Rattle.oi_target_laws.proofs.Keeps.{Keeps, served_keeps}
-use Rattle.oi_target_laws.specs.Numbers.{IsSame, SameAreEqual, Succeed, behind_all, number_by, number_of, numbers_in}
+use Rattle.oi_target_laws.specs.Numbers.{SameAreEqual, Succeed, behind_all, number_by, number_of, numbers_in}
 use Rattle.oi_target_laws.specs.Turned.{Turned, in_turn_turns, turned_at, turns_at, turns_if}
 use Rattle.oi_target_session.specs.Arrivals.{Held, Received, advanced, followed, in_turn, is_held, padded, place_ahead, place_by, place_of, received_at, unmoved, window}
 use Rattle.oi_target_session.specs.Sessions.{Session, Turn, served}

@@ -1,9 +1,8 @@
 -- What a PDU that has its turn makes of the commands that wait.
-use Rattle.std.proofs.Common.{ℕ, Bool, true, false, not, ◌&&◌, ◌||◌, cond, ◌≡◌, ◌∙◌, Option, Some, None, is_some, List, [], ◌∷◌, ◌++◌, map, refl, ap, sym, subst, bytes_eq, filter, take, length, nat_lt, ◌==◌, if◌then◌else◌}
-use Rattle.std.proofs.lemmas.Bool.{eqb-true, eq-eqb, and_parts}
+use Rattle.std.proofs.Common.{ℕ, Bool, true, false, not, ◌&&◌, ◌||◌, cond, ◌≡◌, ◌∙◌, Option, Some, None, is_some, List, [], ◌∷◌, ◌++◌, refl, ap, sym, subst, bytes_eq, filter, take, length, ◌==◌, if◌then◌else◌}
+use Rattle.std.proofs.lemmas.Bool.{eqb-true, and_parts}
 use Rattle.std.proofs.lemmas.List.{map-append}
-use Rattle.std.specs.List.{find, list_any}
-use Rattle.oi_base.specs.declared.tag.Tag.{Tag}
+use Rattle.std.specs.List.{list_any}
 use Rattle.oi_pdu.specs.declared.codec.Pdu.{Pdu}
 use Rattle.oi_pdu.specs.declared.header.DataOut.{DataOut}
 use Rattle.oi_pdu.specs.declared.header.Header.{Header}
@@ -14,12 +13,12 @@ use Rattle.oi_pdu.specs.declared.header.ScsiCommand.{ScsiCommand}
 use Rattle.oi_pdu.specs.declared.header.TaskManagement.{TaskManagement}
 use Rattle.oi_pdu.specs.declared.header.TextRequest.{TextRequest}
 use Rattle.oi_sendtargets.specs.declared.found.Found.{Found}
-use Rattle.oi_target_laws.proofs.Moves.{Moves, ends, executes, joins, stays, takes_out}
-use Rattle.oi_target_laws.specs.Turned.{brought, command_of_task, commands_if, commands_of, ended_as, taken_as, taken_by, taken_in, turned_at}
+use Rattle.oi_target_laws.proofs.Moves.{Moves, ends, joins, stays, takes_out}
+use Rattle.oi_target_laws.specs.Turned.{brought, command_of_task, commands_if, commands_of, taken_as, taken_by, taken_in}
 use Rattle.oi_target_login.specs.Texts.{text_pairs}
 use Rattle.oi_target_session.specs.Answers.{echo_pdu, no_tag, r2t_pdu}
 use Rattle.oi_target_session.specs.Listings.{is_long}
-use Rattle.oi_target_session.specs.Sessions.{Handled, Session, aborted, asking, closes, commanded, counted, data_out, data_to, filled_by, goes, handled, handled_discovering, handled_normally, is_unfit, logged_out, managed, pinged, queued, reset_as, responded, spared, text_kept, text_read, text_sent, texted, texted_with, with_tasks, with_transfer}
+use Rattle.oi_target_session.specs.Sessions.{Handled, Session, aborted, asking, closes, commanded, counted, data_out, data_to, filled_by, goes, handled, handled_discovering, handled_normally, is_unfit, logged_out, managed, pinged, queued, reset_as, responded, spared, text_kept, text_read, text_sent, texted_with, with_tasks, with_transfer}
 use Rattle.oi_target_session.specs.declared.fed.Fed.{Fed}
 use Rattle.oi_target_session.specs.declared.fed.Fed.TheVariants.{Going, Closed}
 use Rattle.oi_target_session.specs.declared.reset.Reset.{Reset}

@@ -8,7 +8,7 @@ use Rattle.oi_target.proofs.Shown.{only_proved_log_in}
 use Rattle.oi_target.specs.Events.{Event, Joined, Left, Told, Whole, Malformed, happened, heard_of, shut, state_after}
 use Rattle.oi_target.specs.Shown.{HasProved, Heard, answer_to, login_after}
 use Rattle.oi_target.specs.Steps.{Step, logged_in_by, serving_by, stepped, with_words}
-use Rattle.oi_target.specs.Targets.{Target, aside, ended_standing, link_of, nexus_of, new_link, reset_link, reset_links, reset_standing, rules_of, session_of, without}
+use Rattle.oi_target.specs.Targets.{Target, aside, ended_standing, link_of, nexus_of, new_link, reset_link, reset_links, reset_standing, rules_of, without}
 use Rattle.oi_target.specs.declared.config.TargetConfig.{TargetConfig}
 use Rattle.oi_target.specs.declared.link.Link.{Link}
 use Rattle.oi_target.specs.declared.link.Serving.{Serving}
@@ -22,12 +22,11 @@ use Rattle.oi_target_laws.proofs.Steps.{ended_standings}
 use Rattle.oi_target_laws.specs.Histories.{standing_in, standing_of}
 use Rattle.oi_target_laws.specs.Logins.{LoginsAreHeard, ServedHaveProved, begun, event_heard, heard_as, heard_on, opened_at, opened_on}
 use Rattle.oi_target_laws.specs.Numbers.{event_opened, link_opened, opened_by, step_opened}
-use Rattle.oi_target_login.specs.Logins.{fresh, turned}
+use Rattle.oi_target_login.specs.Logins.{turned}
 use Rattle.oi_target_login.specs.declared.answer.Answer.{Answer}
 use Rattle.oi_target_login.specs.declared.answer.NewSession.{NewSession}
 use Rattle.oi_target_login.specs.declared.answer.Verdict.{Verdict}
 use Rattle.oi_target_login.specs.declared.answer.Verdict.TheVariants as verdict
-use Rattle.oi_target_login.specs.declared.config.ChapConfig.{ChapConfig}
 use Rattle.oi_target_login.specs.declared.config.LoginRules.{LoginRules}
 use Rattle.oi_target_login.specs.declared.progress.Progress.{Progress}
 use Rattle.oi_target_session.specs.Arrivals.{Received, place_of, received}

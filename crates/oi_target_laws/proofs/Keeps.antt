@@ -1,5 +1,5 @@
 -- A PDU leaves whose session it is, and one that has its turn which number is expected.
-use Rattle.std.proofs.Common.{ℕ, Bool, true, false, not, ◌&&◌, ◌≡◌, ◌∙◌, Option, Some, None, is_some, List, [], ◌∷◌, ◌++◌, filter, length, refl, ap, take, if◌then◌else◌, ◌==◌}
+use Rattle.std.proofs.Common.{ℕ, Bool, true, false, not, ◌&&◌, ◌≡◌, ◌∙◌, Option, Some, None, is_some, List, [], ◌∷◌, ◌++◌, filter, length, refl, take, if◌then◌else◌, ◌==◌}
 use Rattle.std.specs.List.{list_any, slice_get, slice_set}
 use Rattle.oi_pdu.specs.declared.codec.Pdu.{Pdu}
 use Rattle.oi_pdu.specs.declared.header.DataOut.{DataOut}
@@ -14,7 +14,7 @@ use Rattle.oi_target_login.specs.Texts.{text_pairs}
 use Rattle.oi_target_session.specs.Answers.{echo_pdu, no_tag, r2t_pdu}
 use Rattle.oi_target_session.specs.Arrivals.{Held, Received, advanced, followed, in_turn, is_held, padded, received_at, unmoved}
 use Rattle.oi_target_session.specs.Listings.{is_long}
-use Rattle.oi_target_session.specs.Sessions.{Handled, Session, Turn, aborted, and_drained, asking, behind, closes, commanded, counted, data_out, data_to, drained, filled_by, goes, handled, handled_discovering, handled_normally, is_unfit, managed, pinged, queued, reply_pdus, reset_as, responded, served, text_kept, text_read, text_sent, texted, texted_with, with_tasks, with_transfer}
+use Rattle.oi_target_session.specs.Sessions.{Handled, Session, Turn, aborted, and_drained, asking, behind, closes, commanded, counted, data_to, drained, filled_by, goes, handled, handled_discovering, handled_normally, is_unfit, managed, pinged, queued, reply_pdus, reset_as, responded, served, text_kept, text_read, text_sent, texted_with, with_tasks, with_transfer}
 use Rattle.oi_target_session.specs.declared.fed.Fed.{Fed}
 use Rattle.oi_target_session.specs.declared.fed.Fed.TheVariants.{Going, Closed}
 use Rattle.oi_target_session.specs.declared.place.Place.{Place}

@@ -1,8 +1,8 @@
 -- From the commands that waited, by those that came, to those that wait.
-use Rattle.std.proofs.Common.{ℕ, ◌+◌, Bool, true, false, cond, not, ◌≡◌, ◌∙◌, ◌⊎◌, inl, inr, List, [], ◌∷◌, ◌++◌, map, refl, ap, sym, subst, arith, append-nil, append_assoc, filter}
+use Rattle.std.proofs.Common.{ℕ, ◌+◌, Bool, true, false, cond, not, ◌≡◌, ◌∙◌, inl, inr, List, [], ◌∷◌, ◌++◌, refl, ap, sym, subst, arith, append-nil, append_assoc, filter}
 use Rattle.std.proofs.lemmas.List.Sums.{sum_by-append, sum_by-cons}
 use Rattle.std.specs.List.{count_by}
-use Rattle.oi_target_laws.specs.Turned.{command_of_task, commands_of}
+use Rattle.oi_target_laws.specs.Turned.{commands_of}
 use Rattle.oi_target_laws.specs.Within.{Within}
 use Rattle.oi_target_tasks.specs.declared.task.Task.{Task}
 use Rattle.oi_units.specs.declared.command.UnitCommand.{UnitCommand}

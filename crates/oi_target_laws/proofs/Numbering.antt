@@ -8,7 +8,7 @@ use Rattle.oi_target.proofs.Numbered.{others_found, true_not}
 use Rattle.oi_target.proofs.Placed.{link_map}
 use Rattle.oi_target.specs.Events.{Event, Joined, Left, Told, Whole, Malformed, happened, heard_of, shut, state_after}
 use Rattle.oi_target.specs.Steps.{Step, logged_in_by, serving_by, stepped, with_words}
-use Rattle.oi_target.specs.Targets.{Target, aside, ended_standing, link_of, nexus_of, new_link, reset_link, reset_links, reset_standing, session_of, without}
+use Rattle.oi_target.specs.Targets.{Target, aside, ended_standing, link_of, nexus_of, new_link, reset_link, reset_links, reset_standing, without}
 use Rattle.oi_target.specs.declared.config.TargetConfig.{TargetConfig}
 use Rattle.oi_target.specs.declared.link.Link.{Link}
 use Rattle.oi_target.specs.declared.link.Serving.{Serving}

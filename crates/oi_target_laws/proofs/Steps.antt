@@ -1,5 +1,5 @@
 -- What a PDU of a connection makes of the tasks of its own session, and of those of others.
-use Rattle.std.proofs.Common.{ℕ, Bool, true, false, ◌≡◌, ◌∙◌, Option, Some, None, List, [], ◌∷◌, ◌++◌, bytes_eq, filter, flat_map, map, not, cond, refl, ap, sym, subst, append-nil, if◌then◌else◌, ◌==◌}
+use Rattle.std.proofs.Common.{ℕ, Bool, true, false, ◌≡◌, ◌∙◌, Option, Some, None, List, [], ◌∷◌, ◌++◌, bytes_eq, filter, flat_map, map, not, cond, refl, ap, sym, subst, if◌then◌else◌}
 use Rattle.std.proofs.lemmas.List.{map-append}
 use Rattle.oi_pdu.specs.declared.codec.Pdu.{Pdu}
 use Rattle.oi_target.proofs.Placed.{link_map, over}
@@ -14,7 +14,7 @@ use Rattle.oi_target_laws.proofs.Handles.{spares}
 use Rattle.oi_target_laws.proofs.Moves.{Moves, ends, moves_on, stays}
 use Rattle.oi_target_laws.proofs.Turns.{received_moves, received_stuck}
 use Rattle.oi_target_laws.specs.Histories.{standing_in, standing_of, step_ended, step_taken, step_turns, taken_by_all, taken_by_login, tasks_at, tasks_in, tasks_under}
-use Rattle.oi_target_laws.specs.Turned.{Turned, came_in, command_of_request, command_of_task, commands_if, commands_of, taken_by, tasks_if, turns_at}
+use Rattle.oi_target_laws.specs.Turned.{came_in, command_of_request, command_of_task, commands_if, commands_of, taken_by, tasks_if}
 use Rattle.oi_target_login.specs.Logins.{turned}
 use Rattle.oi_target_login.specs.declared.answer.Answer.{Answer}
 use Rattle.oi_target_login.specs.declared.answer.Verdict.{Verdict}

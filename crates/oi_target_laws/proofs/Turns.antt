@@ -1,9 +1,9 @@
 -- PDUs that have their turn, one after another.
-use Rattle.std.proofs.Common.{ℕ, Bool, true, false, ◌≡◌, ◌∙◌, Some, None, List, [], ◌∷◌, ◌++◌, map, refl, ap, sym, subst, append-nil, flat_map, slice_get, slice_set, if◌then◌else◌}
+use Rattle.std.proofs.Common.{ℕ, Bool, true, false, ◌≡◌, Some, None, List, [], ◌∷◌, ◌++◌, map, refl, ap, sym, subst, append-nil, flat_map, slice_get, slice_set, if◌then◌else◌}
 use Rattle.std.proofs.lemmas.List.{map-append}
 use Rattle.oi_pdu.specs.declared.codec.Pdu.{Pdu}
 use Rattle.oi_sendtargets.specs.declared.found.Found.{Found}
-use Rattle.oi_target_laws.proofs.Handles.{Handles, ended_by, handled_handles}
+use Rattle.oi_target_laws.proofs.Handles.{ended_by, handled_handles}
 use Rattle.oi_target_laws.proofs.Moves.{Moves, ends, executes, moves_on, stays}
 use Rattle.oi_target_laws.specs.Turned.{Turned, brought, came_in, command_of_request, commands_if, commands_of, ended_as, ended_at, ended_in, executed_at, in_turn_turns, taken_in, tasks_if, turned_at, turns_at, turns_if}
 use Rattle.oi_target_session.specs.Arrivals.{Held, Received, advanced, followed, in_turn, is_held, padded, received_at, unmoved}

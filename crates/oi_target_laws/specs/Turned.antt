@@ -1,5 +1,5 @@
 -- The PDUs of a session that had their turn, and what became of its commands by each of them.
-use Rattle.std.specs.Prelude.{ℕ, Option, Some, None, is_some, List, [], ◌∷◌, ◌++◌, bytes_eq, filter, map, ◌==◌, if◌then◌else◌}
+use Rattle.std.specs.Prelude.{Some, None, is_some, List, [], ◌∷◌, ◌++◌, bytes_eq, filter, map, ◌==◌, if◌then◌else◌}
 use Rattle.std.specs.List.{flat_map, slice_get}
 use Rattle.oi_pdu.specs.declared.codec.Pdu.{Pdu}
 use Rattle.oi_pdu.specs.declared.header.Header.{Header}
