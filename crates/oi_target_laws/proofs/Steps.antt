@@ -12,9 +12,9 @@ use Rattle.oi_target.specs.declared.link.Standing.TheVariants as standing
 use Rattle.oi_target_laws.proofs.Idle.{OneIsBusy, busy_map}
 use Rattle.oi_target_laws.proofs.Handles.{spares}
 use Rattle.oi_target_laws.proofs.Moves.{Moves, ends, moves_on, stays}
-use Rattle.oi_target_laws.proofs.Turns.{received_moves, received_stuck}
+use Rattle.oi_target_laws.proofs.Turns.{received_moves, received_stuck, tasks_if}
 use Rattle.oi_target_laws.specs.Histories.{standing_in, standing_of, step_ended, step_taken, step_turns, taken_by_all, taken_by_login, tasks_at, tasks_in, tasks_under}
-use Rattle.oi_target_laws.specs.Turned.{came_in, command_of_request, command_of_task, commands_if, commands_of, taken_by, tasks_if}
+use Rattle.oi_target_laws.specs.Turned.{came_in, command_of_request, command_of_task, commands_if, commands_of, taken_by}
 use Rattle.oi_target_login.specs.Logins.{turned}
 use Rattle.oi_target_login.specs.declared.answer.Answer.{Answer}
 use Rattle.oi_target_login.specs.declared.answer.Verdict.{Verdict}

@@ -5,9 +5,9 @@ use Rattle.oi_pdu.specs.declared.codec.Pdu.{Pdu}
 use Rattle.oi_sendtargets.specs.declared.found.Found.{Found}
 use Rattle.oi_target_laws.proofs.Handles.{ended_by, handled_handles}
 use Rattle.oi_target_laws.proofs.Moves.{Moves, ends, executes, moves_on, stays}
-use Rattle.oi_target_laws.specs.Turned.{Turned, brought, came_in, command_of_request, commands_if, commands_of, ended_as, ended_at, ended_in, executed_at, in_turn_turns, taken_in, tasks_if, turned_at, turns_at, turns_if}
+use Rattle.oi_target_laws.specs.Turned.{Turned, brought, came_in, command_of_request, commands_if, commands_of, ended_as, ended_at, ended_in, in_turn_turns, taken_in, turned_at, turns_at, turns_if}
 use Rattle.oi_target_session.specs.Arrivals.{Held, Received, advanced, followed, in_turn, is_held, padded, received_at, unmoved}
-use Rattle.oi_target_session.specs.Executions.{if_going, in_turn_requests, served_requests}
+use Rattle.oi_target_session.specs.Executions.{if_going, in_turn_requests, requests_at, served_requests}
 use Rattle.oi_target_session.specs.Runs.{ready, request_of}
 use Rattle.oi_target_session.specs.Sessions.{Handled, Session, Turn, and_drained, behind, counted, drained, handled, reply_pdus, served, with_tasks}
 use Rattle.oi_target_session.specs.declared.fed.Fed.{Fed}
@@ -20,6 +20,15 @@ use Rattle.oi_units.specs.Runs.{Request}
 use Rattle.oi_units.specs.Units.{executed}
 use Rattle.oi_units.specs.declared.command.UnitCommand.{UnitCommand}
 use Rattle.oi_units.specs.declared.unit.LogicalUnit.{LogicalUnit}
+
+-- the commands that are executed as a PDU comes
+abbrev pub executed_at : Place → Session → List LogicalUnit → List Found → Held → Pdu → List UnitCommand
+executed_at place s units listing held p = map command_of_request (requests_at place s units listing held p)
+
+-- the tasks that wait, where the connection stays
+abbrev pub tasks_if : Fed → List Task → List Task
+tasks_if Closed ts = []
+tasks_if Going ts = ts
 
 -- nothing is appended
 pub with_nil : (ws cs es ds ks : List UnitCommand) → Moves ws cs es ds ks → Moves ws (cs ++ []) es (ds ++ []) ks

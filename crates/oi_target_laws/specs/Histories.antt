@@ -28,6 +28,7 @@ abbrev pub standing_of : Option Link → Standing
 standing_of None = standing.Closed
 standing_of (Some l) = l.standing
 
+-- where the one of this number does
 abbrev pub standing_in : ℕ → List Link → Standing
 standing_in n links = standing_of (link_of n links)
 
@@ -36,6 +37,7 @@ abbrev pub tasks_at : Standing → List Task
 tasks_at (standing.Serving v) = v.session.tasks
 tasks_at s = []
 
+-- of the connection of this number
 abbrev pub tasks_in : ℕ → List Link → List Task
 tasks_in n links = tasks_at (standing_in n links)
 
@@ -45,10 +47,12 @@ step_turns t (standing.Serving v) pdu =
     turns_at (place_of v.session.discovers v.session.numbers.exp.0 pdu.head) v.session t.units t.listing v.held pdu
 step_turns t s pdu = []
 
+-- of a connection that is there
 abbrev pub link_turns : Target → ℕ → Option Link → Pdu → List Turned
 link_turns t m None p = []
 link_turns t m (Some l) p = step_turns (aside m t) l.standing p
 
+-- as an event happens, on connection n
 abbrev pub event_turns : ℕ → Target → Event → List Turned
 event_turns n t (Whole m p) = if m == n then link_turns t m (link_of m t.links) p else []
 event_turns n t e = []
@@ -67,6 +71,7 @@ abbrev pub event_executed : ℕ → Target → Event → List UnitCommand
 event_executed n t (Whole m p) = if m == n then map command_of_request (event_requests t (Whole m p)) else []
 event_executed n t e = []
 
+-- all of them, in order
 abbrev pub executed_on : ℕ → TargetConfig → List Event → List UnitCommand
 executed_on n c [] = []
 executed_on n c (e ∷ es) = executed_on n c es ++ event_executed n (state_after c es) e
@@ -77,6 +82,7 @@ step_ended t (standing.Serving v) pdu =
     ended_at (place_of v.session.discovers v.session.numbers.exp.0 pdu.head) v.session t.units t.listing v.held pdu
 step_ended t s pdu = []
 
+-- of a connection that is there
 abbrev pub link_ended : Target → ℕ → Option Link → Pdu → List UnitCommand
 link_ended t m None p = []
 link_ended t m (Some l) p = step_ended (aside m t) l.standing p
@@ -102,6 +108,7 @@ step_taken t (standing.LoggingIn p) pdu other = taken_by_login (turned t.rules t
 step_taken t (standing.Serving v) pdu other = taken_by_all (received v.session t.units t.listing v.held pdu).session.resets (tasks_at other)
 step_taken t s pdu other = []
 
+-- of a connection that is there
 abbrev pub link_taken : Target → ℕ → Option Link → Pdu → Standing → List Task
 link_taken t m None p other = []
 link_taken t m (Some l) p other = step_taken (aside m t) l.standing p other
@@ -115,14 +122,16 @@ event_ended n t (Whole m p) =
     else commands_of (link_taken t m (link_of m t.links) p (standing_in n t.links))
 event_ended n t e = []
 
+-- all of them, in order
 abbrev pub ended_on : ℕ → TargetConfig → List Event → List UnitCommand
 ended_on n c [] = []
 ended_on n c (e ∷ es) = ended_on n c es ++ event_ended n (state_after c es) e
 
--- the tasks and commands that wait now
+-- the tasks that wait now
 abbrev pub tasks_on : ℕ → TargetConfig → List Event → List Task
 tasks_on n c es = tasks_in n (state_after c es).links
 
+-- and their commands
 abbrev pub waiting_on : ℕ → TargetConfig → List Event → List UnitCommand
 waiting_on n c es = commands_of (tasks_on n c es)
 
@@ -140,6 +149,7 @@ EachIsAccounted =
 abbrev pub is_complete : Request → Bool
 is_complete r = not (r.command.writes && nat_lt (length r.payload) r.command.length)
 
+-- those of all requests are
 abbrev pub AreComplete : List Request → Type 0
 AreComplete [] = Unit {0}
 AreComplete (r ∷ rs) = (is_complete r ≡ true) × AreComplete rs
@@ -153,6 +163,7 @@ abbrev pub unless_turns : List Turned → Bool → Bool
 unless_turns [] was = was
 unless_turns (t ∷ ts) was = false
 
+-- tasks were taken now, or before
 abbrev pub or_taken : List Task → Bool → Bool
 or_taken [] was = was
 or_taken (t ∷ ts) was = true
@@ -164,6 +175,7 @@ hit_by n t (Whole m p) was =
     else or_taken (link_taken t m (link_of m t.links) p (standing_in n t.links)) was
 hit_by n t e was = was
 
+-- over all events
 abbrev pub was_hit : ℕ → TargetConfig → List Event → Bool
 was_hit n c [] = false
 was_hit n c (e ∷ es) = hit_by n (state_after c es) e (was_hit n c es)

@@ -23,6 +23,7 @@ abbrev pub begun : Option Link → List Heard → List Heard
 begun None hs = []
 begun (Some l) hs = hs
 
+-- what was heard of connection n as an event happens
 abbrev pub event_heard : ℕ → Target → Event → List Heard → List Heard
 event_heard n t (Joined m) hs = if m == n then begun (link_of m t.links) hs else hs
 event_heard n t (Left m) hs = if m == n then [] else hs
@@ -34,6 +35,7 @@ abbrev pub heard_on : ℕ → TargetConfig → List Event → List Heard
 heard_on n c [] = []
 heard_on n c (e ∷ es) = event_heard n (state_after c es) e (heard_on n c es)
 
+-- those as a session opens, or the ones before
 abbrev pub opened_at : Option ℕ → List Heard → List Heard → List Heard
 opened_at None hs was = was
 opened_at (Some first) hs was = hs

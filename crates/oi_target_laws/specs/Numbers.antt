@@ -31,6 +31,7 @@ number_of discovers (head.LogoutRequest h) = number_by h.immediate h.cmdsn.0
 number_of discovers (head.TextRequest h) = number_by (h.immediate || not discovers) h.cmdsn.0
 number_of discovers h = None
 
+-- that of a PDU that had its turn, if any
 abbrev pub numbers_in : Turned → List ℕ
 numbers_in t = option_to_list (number_of t.session.discovers t.pdu.head)
 
@@ -39,10 +40,12 @@ abbrev pub opened_by : Verdict → Option ℕ
 opened_by (verdict.Done s) = Some s.exp.0
 opened_by v = None
 
+-- as a PDU comes
 abbrev pub step_opened : Target → Standing → Pdu → Option ℕ
 step_opened t (standing.LoggingIn p) pdu = opened_by (turned t.rules t.handle p pdu t.words).answer.verdict
 step_opened t s pdu = None
 
+-- on a connection that is there
 abbrev pub link_opened : Target → ℕ → Option Link → Pdu → Option ℕ
 link_opened t m None p = None
 link_opened t m (Some l) p = step_opened (aside m t) l.standing p
@@ -52,6 +55,7 @@ abbrev pub event_opened : ℕ → Target → Event → Option ℕ
 event_opened n t (Whole m p) = if m == n then link_opened t m (link_of m t.links) p else None
 event_opened n t e = None
 
+-- it, or the one before
 abbrev pub first_by : Option ℕ → ℕ → ℕ
 first_by None was = was
 first_by (Some first) was = first
@@ -61,6 +65,7 @@ abbrev pub first_on : ℕ → TargetConfig → List Event → ℕ
 first_on n c [] = 0
 first_on n c (e ∷ es) = first_by (event_opened n (state_after c es) e) (first_on n c es)
 
+-- a new session has had no turns yet
 abbrev pub since : Option ℕ → List Turned → List Turned
 since None turns = turns
 since (Some first) turns = []

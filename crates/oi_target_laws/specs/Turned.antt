@@ -7,7 +7,6 @@ use Rattle.oi_pdu.specs.declared.header.Header.TheVariants as head
 use Rattle.oi_pdu.specs.declared.header.TaskManagement.{TaskManagement}
 use Rattle.oi_sendtargets.specs.declared.found.Found.{Found}
 use Rattle.oi_target_session.specs.Arrivals.{Held, advanced, is_held}
-use Rattle.oi_target_session.specs.Executions.{requests_at}
 use Rattle.oi_target_session.specs.Sessions.{Session, handled, served}
 use Rattle.oi_target_session.specs.declared.fed.Fed.{Fed}
 use Rattle.oi_target_session.specs.declared.fed.Fed.TheVariants.{Going, Closed}
@@ -29,6 +28,7 @@ pub record Turned : Type 0 where
   pub listing : List Found
   pub pdu : Pdu
 
+-- it, in its parts
 abbrev pub turned_at : Session → List LogicalUnit → List Found → Pdu → Turned
 turned_at s units listing p = record { session = s; units = units; listing = listing; pdu = p }
 
@@ -53,9 +53,15 @@ turns_at InTurn s units listing held p = in_turn_turns s units listing p held
 turns_at (Early at) s units listing held p = []
 turns_at Outside s units listing held p = []
 
+-- the command of a task
 abbrev pub command_of_task : Task → UnitCommand
 command_of_task t = t.command
 
+-- and of a request to the units
+abbrev pub command_of_request : Request → UnitCommand
+command_of_request r = r.command
+
+-- the commands of tasks, in order
 abbrev pub commands_of : List Task → List UnitCommand
 commands_of ts = map command_of_task ts
 
@@ -69,10 +75,11 @@ abbrev pub brought : Header → List UnitCommand
 brought (head.ScsiCommand h) = unit_command h ∷ []
 brought h = []
 
--- a PDU that closes the connection brings none
+-- whether the connection stays behind a PDU
 abbrev pub fed_by : Turned → Fed
 fed_by t = (handled t.session t.units t.listing t.pdu.head t.pdu.payload).fed
 
+-- the command that came by a PDU; one that closes the connection is not taken
 abbrev pub came_in : Turned → List UnitCommand
 came_in t = commands_if (fed_by t) (brought t.pdu.head)
 
@@ -89,19 +96,21 @@ taken_as s units h =
     else (if h.function == 6 then taken_by Whole s.tasks
     else []))
 
+-- the tasks that a PDU takes
 abbrev pub taken_in : Session → List LogicalUnit → Header → List Task
 taken_in s units (head.TaskManagement h) = taken_as s units h
 taken_in s units h = []
 
--- the commands that a PDU ends before they are executed: all, where it closes the connection
+-- the commands that end before they are executed: all, where the connection closes
 abbrev pub ended_as : Fed → Turned → List UnitCommand
 ended_as Closed t = commands_of t.session.tasks
 ended_as Going t = commands_of (taken_in t.session t.units t.pdu.head)
 
+-- those that a PDU ends
 abbrev pub ended_in : Turned → List UnitCommand
 ended_in t = ended_as (fed_by t) t
 
--- a PDU that has no place closes the connection: one outside the window, or a second one of its number
+-- the commands that end where a PDU has no place, which closes the connection: one outside the window, or a second one of its number
 abbrev pub unplaced : Place → Session → Held → List UnitCommand
 unplaced Now s held = []
 unplaced InTurn s held = []
@@ -111,15 +120,3 @@ unplaced Outside s held = commands_of s.tasks
 -- the commands that end as a PDU comes
 abbrev pub ended_at : Place → Session → List LogicalUnit → List Found → Held → Pdu → List UnitCommand
 ended_at place s units listing held p = flat_map ended_in (turns_at place s units listing held p) ++ unplaced place s held
-
--- the commands that are executed as a PDU comes
-abbrev pub command_of_request : Request → UnitCommand
-command_of_request r = r.command
-
-abbrev pub executed_at : Place → Session → List LogicalUnit → List Found → Held → Pdu → List UnitCommand
-executed_at place s units listing held p = map command_of_request (requests_at place s units listing held p)
-
--- the tasks that wait, where the connection stays
-abbrev pub tasks_if : Fed → List Task → List Task
-tasks_if Closed ts = []
-tasks_if Going ts = ts
