@@ -1,4 +1,5 @@
 pub mod Accounts
+pub mod Arriving
 pub mod Complete
 pub mod Conflicts
 pub mod Counting
@@ -8,5 +9,6 @@ pub mod Idle
 pub mod Keeps
 pub mod Moves
 pub mod Numbering
+pub mod Placing
 pub mod Steps
 pub mod Turns

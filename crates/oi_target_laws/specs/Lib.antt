@@ -1,3 +1,4 @@
+pub mod Arrivals
 pub mod Conflicts
 pub mod Histories
 pub mod Logins

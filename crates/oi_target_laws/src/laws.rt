@@ -1,3 +1,4 @@
+ghost use Rattle.oi_target_laws.specs.Arrivals.{EachHasItsTurn};
 ghost use Rattle.oi_target_laws.specs.Conflicts.{ConflictIsExact, ConflictsChangeNothing};
 ghost use Rattle.oi_target_laws.specs.Histories.{EachIsAccounted, ExecutedAreComplete, ExecutedInOrder, ReadyAreExecuted};
 ghost use Rattle.oi_target_laws.specs.Logins.{LoginsAreHeard, ServedHaveProved};
@@ -22,11 +23,13 @@ pub fn conflicts_are_exact()
 {}
 
 /// The PDUs of a session that take a number (CmdSN) have their turn in the order of their numbers, with none left out and none twice, from
-/// the number on with which the login opened the session; and the session expects the one behind the last (RFC 7143, section 4.2.2.1).
+/// the number on with which the login opened the session; and the session expects the one behind the last (RFC 7143, section 4.2.2.1). Each
+/// PDU that came on a session had its turn once, or is held until those before it come.
 pub fn numbers_succeed()
     ensures order { NumbersSucceed }
     ensures expected { NextIsExpected }
     ensures turns { TurnsAreLast }
+    ensures each { EachHasItsTurn }
     ensures equal { SameAreEqual }
 {}
 
