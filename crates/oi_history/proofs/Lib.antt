@@ -1,4 +1,5 @@
 pub mod Places
+pub mod Ranges
 pub mod Recovered
 pub mod Standing
 pub mod Tallied

@@ -1,5 +1,5 @@
 -- Where the code finds the submission to send, and those that are due.
-use Rattle.std.specs.Prelude.{ℕ, ◌≡◌, ◌≢◌, ◌≤◌, ◌<◌, ◌+◌, ◌==◌, ◌&&◌, ◌⊎◌, Bool, true, List, Option, None, Some, cond, min, slice_get, vec_len, if◌then◌else◌}
+use Rattle.std.specs.Prelude.{ℕ, suc, ◌≡◌, ◌≢◌, ◌≤◌, ◌<◌, ◌+◌, ◌==◌, ◌&&◌, ◌⊎◌, Bool, true, not, List, [], ◌∷◌, Option, None, Some, cond, max, min, slice_get, vec_len, if◌then◌else◌}
 use Rattle.std.specs.List.{position}
 use Rattle.oi_history.specs.Handling.{live_at}
 use Rattle.oi_history.specs.Owing.{live_on_lun}
@@ -39,6 +39,43 @@ earlier_where counts one other = if counts then earlier one other else one
 -- those that are due, or that a delivery would change, lie at or above one id and below another
 abbrev pub AreSettledBut : ℕ → ℕ → List Task → Type 0
 AreSettledBut low high tasks = (id : ℕ) (t : Task) → slice_get tasks id ≡ Some t → (t.told ≡ is_done t.fate) ⊎ ((low ≤ id) × (id < high))
+
+-- a delivery would change it
+abbrev pub is_unsettled : Task → Bool
+is_unsettled t = if t.told then not (is_done t.fate) else is_done t.fate
+
+-- the range in which such ones lie, with this one where it is such
+abbrev pub low_with : Task → ℕ → ℕ → ℕ
+low_with t id low = if is_unsettled t then min id low else low
+
+abbrev pub high_with : Task → ℕ → ℕ → ℕ
+high_with t id high = if is_unsettled t then max high (suc id) else high
+
+-- with the one that has this id, if any
+abbrev pub low_noted : Option Task → ℕ → ℕ → ℕ
+low_noted None id low = low
+low_noted (Some t) id low = low_with t id low
+
+abbrev pub high_noted : Option Task → ℕ → ℕ → ℕ
+high_noted None id high = high
+high_noted (Some t) id high = high_with t id high
+
+-- with these, of which the first has this id
+abbrev pub low_over : ℕ → List Task → ℕ → ℕ
+low_over id [] low = low
+low_over id (t ∷ ts) low = low_over (suc id) ts (low_with t id low)
+
+abbrev pub high_over : ℕ → List Task → ℕ → ℕ
+high_over id [] high = high
+high_over id (t ∷ ts) high = high_over (suc id) ts (high_with t id high)
+
+-- the range that has none
+abbrev pub no_low : ℕ
+no_low = 18446744073709551615
+
+pub record IsNarrow (ix : Index) (low high : ℕ) : Type 0 where
+  pub low_is : ix.low ≡ low
+  pub high_is : ix.high ≡ high
 
 pub record IsIndexed (ix : Index) (tasks : List Task) : Type 0 where
   pub size : vec_len ix.luns ≡ 256

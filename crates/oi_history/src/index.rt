@@ -1,6 +1,6 @@
 ghost use Rattle.std.specs.Prelude.{◌≡◌, ◌≤◌, ◌<◌, ◌+◌, ◌^◌, ◌⊎◌, Bool, IfOk, List, ℕ, Some, [], cond, false, length, map, nat_lt, slice_get, take, vec_len};
 ghost use Rattle.oi_history.specs.Handling.{is_live};
-ghost use Rattle.oi_history.specs.Indices.{IsFirstBut, IsIndexed, WasIndexed, WasIndexedOn, earlier, earlier_where, lun_index, waiting_on, waits_on, with_one};
+ghost use Rattle.oi_history.specs.Indices.{IsFirstBut, IsIndexed, IsNarrow, WasIndexed, WasIndexedOn, earlier, earlier_where, high_noted, high_over, high_with, low_noted, low_over, low_with, lun_index, no_low, waiting_on, waits_on, with_one};
 ghost use Rattle.oi_history.specs.Owing.{sendable};
 ghost use Rattle.oi_history.specs.Tasks.{is_done, is_waiting, told_task};
 ghost use Rattle.oi_history.specs.declared.task.Task.{Task};
@@ -137,7 +137,8 @@ impl LunIndex {
 impl Index {
     /// Of no submission.
     pub fn new(alloc: Global) -> Result<Index, NoMemory>
-        ensures { IfOk result (λ index. IsIndexed index []) }
+        ensures index { IfOk result (λ index. IsIndexed index []) }
+        ensures range { IfOk result (λ index. IsNarrow index no_low 0) }
     {
         let mut luns = Vec::with_capacity(alloc, LUNS)?;
         for _lun in 0..LUNS {
@@ -156,6 +157,7 @@ impl Index {
         ensures luns { self.new.luns ≡ self.old.luns }
         ensures low { self.new.low ≤ self.old.low }
         ensures high { self.old.high ≤ self.new.high }
+        ensures range { IsNarrow self.new (low_with task.now id self.old.low) (high_with task.now id self.old.high) }
         ensures settled { (task.now.told ≡ is_done task.now.fate) ⊎ ((self.new.low ≤ id) × (id < self.new.high)) }
     {
         if task.told == is_done(&task.fate) {
@@ -172,7 +174,8 @@ impl Index {
     /// The submission with this id moved on. `was_live` says that it was live before.
     pub fn note(&mut self, tasks: &[Task], id: u64, was_live: bool)
         requires { WasIndexed self.old id was_live tasks.now }
-        ensures { IsIndexed self.new tasks.now }
+        ensures index { IsIndexed self.new tasks.now }
+        ensures range { IsNarrow self.new (low_noted (slice_get tasks.now id) id self.old.low) (high_noted (slice_get tasks.now id) id self.old.high) }
     {
         if id >= tasks.len() as u64 {
             return;
@@ -189,7 +192,8 @@ impl Index {
     pub fn add(&mut self, tasks: &[Task], count: usize)
         requires count { count < length tasks.now }
         requires before { IsIndexed self.old (take count tasks.now) }
-        ensures { IsIndexed self.new (take (count + 1) tasks.now) }
+        ensures index { IsIndexed self.new (take (count + 1) tasks.now) }
+        ensures range { IsNarrow self.new (low_noted (slice_get tasks.now count) count self.old.low) (high_noted (slice_get tasks.now count) count self.old.high) }
     {
         let task = &tasks[count];
         let lun = task.command.lun;
@@ -204,7 +208,8 @@ impl Index {
     /// Anew, of all submissions.
     pub fn build(&mut self, tasks: &[Task])
         requires { vec_len self.old.luns ≡ 256 }
-        ensures { IsIndexed self.new tasks.now }
+        ensures index { IsIndexed self.new tasks.now }
+        ensures range { IsNarrow self.new (low_over 0 tasks.now no_low) (high_over 0 tasks.now 0) }
     {
         self.clear();
         for count in 0..tasks.len() {
@@ -214,7 +219,8 @@ impl Index {
 
     fn clear(&mut self)
         requires { vec_len self.old.luns ≡ 256 }
-        ensures { IsIndexed self.new [] }
+        ensures index { IsIndexed self.new [] }
+        ensures range { IsNarrow self.new no_low 0 }
     {
         for lun in self.luns.iter_mut() {
             *lun = LunIndex::EMPTY;
@@ -225,7 +231,8 @@ impl Index {
 
     /// All that are done are handed out.
     pub fn settle(&mut self)
-        ensures { (ts : List Task) → IsIndexed self.old ts → IsIndexed self.new (map told_task ts) }
+        ensures index { (ts : List Task) → IsIndexed self.old ts → IsIndexed self.new (map told_task ts) }
+        ensures range { IsNarrow self.new no_low 0 }
     {
         self.low = usize::MAX;
         self.high = 0;

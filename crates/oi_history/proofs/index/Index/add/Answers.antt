@@ -13,8 +13,8 @@ with-requires-clause-live c =
       length-take-le c.args.count c.args.tasks.now (omega arith),
     )
 
-pub returns : goal.returns
-returns c =
+pub returns-clause-index : goal.returns-clause-index
+returns-clause-index c =
     let taken : take (c.args.count + 1) c.args.tasks.now ≡ take c.args.count c.args.tasks.now ++ c.index-tasks-count.result ∷ [] =
     take_more c.args.tasks.now c.args.count c.index-tasks-count.result c.requires.count ∙ ap (λ (y : Task). take c.args.count c.args.tasks.now ++ y ∷ []) (sym c.index-tasks-count.is) in
     let len : length (take c.args.count c.args.tasks.now) ≡ c.args.count = length-take-le c.args.count c.args.tasks.now (omega arith) in

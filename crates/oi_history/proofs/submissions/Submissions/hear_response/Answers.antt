@@ -25,5 +25,5 @@ invariant_of-self-2 c =
           (subst (λ (z : List Task). AreFallen c.self.inside.allowed c.self.inside.tasks.items z) (sym c.in_ok-response_for.ensures.tasks)
           (fallen-at c.self.inside.allowed f (λ t. falls_response c.self.inside.allowed c.args.at (aim_of c.args.handler c.in-Some.id t) c.args.h c.args.payload.now t) c.in-Some.id c.self.inside.tasks.items))
           c.in_ok-response_for.ensures.tally,
-      seen c.note.new.self c.response_for.new.tasks.items c.deref-2.result.now c.deref-2.ensures.value c.note.ensures,
+      seen c.note.new.self c.response_for.new.tasks.items c.deref-2.result.now c.deref-2.ensures.value c.note.ensures.index,
     )

@@ -12,7 +12,7 @@ invariant_of-self c =
     let room : 1 ≤ deque_capacity c.self.inside.tally.ended - c.self.inside.places = subst (λ (v : SubmissionsView). 1 ≤ v.takes) (sym c.self.view_is) c.requires.room in (
       kept-issued c.self.inside.allowed c.self.inside.places c.self.inside.tally c.self.inside.tasks.items c.send_at.new.tasks.items c.args.generation c.args.tag c.args.id c.self.invariant.0
           (subst (λ (v : SubmissionsView). WaitsAt c.args.id v.tasks) (sym c.self.view_is) c.requires.waits) (omega (arith, room)) c.send_at.ensures,
-      seen c.note.new.self c.send_at.new.tasks.items c.deref-2.result.now c.deref-2.ensures.value c.note.ensures,
+      seen c.note.new.self c.send_at.new.tasks.items c.deref-2.result.now c.deref-2.ensures.value c.note.ensures.index,
     )
 
 pub returns-clause-ended : goal.returns-clause-ended

@@ -17,5 +17,5 @@ invariant_of-self c = (
       (fallen-from c.self.inside.allowed (blow_by c.self.inside.allowed c.args.at blow) (falls_blow c.self.inside.allowed c.args.at blow) 0 c.self.inside.tasks.items))
       c.strike_all.ensures.tally)
       c.strike_all.ensures.tasks refl c.clear.ensures.len,
-  seen c.build.new.self c.strike_all.new.tasks.items c.deref.result.now c.deref.ensures.value c.build.ensures,
+  seen c.build.new.self c.strike_all.new.tasks.items c.deref.result.now c.deref.ensures.value c.build.ensures.index,
 )

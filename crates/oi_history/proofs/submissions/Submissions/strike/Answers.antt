@@ -13,7 +13,7 @@ invariant_of-self c = (
       (subst (λ (z : List Task). AreFallen c.self.inside.allowed c.self.inside.tasks.items z) (sym c.strike_at.ensures.tasks)
       (fallen-at c.self.inside.allowed (blow_by c.self.inside.allowed c.args.at c.args.blow c.args.id) (falls_blow c.self.inside.allowed c.args.at c.args.blow c.args.id) c.args.id c.self.inside.tasks.items))
       c.strike_at.ensures.tally,
-  seen c.note.new.self c.strike_at.new.tasks.items c.deref-2.result.now c.deref-2.ensures.value c.note.ensures,
+  seen c.note.new.self c.strike_at.new.tasks.items c.deref-2.result.now c.deref-2.ensures.value c.note.ensures.index,
 )
 
 pub note-requires : goal.note-requires

@@ -12,5 +12,5 @@ invariant_of-self c = (
       (subst (λ (z : List Task). AreFallen c.self.inside.allowed c.self.inside.tasks.items z) (sym c.strike_all.ensures.tasks)
       (fallen-from c.self.inside.allowed (blow_by c.self.inside.allowed c.args.at c.args.blow) (falls_blow c.self.inside.allowed c.args.at c.args.blow) 0 c.self.inside.tasks.items))
       c.strike_all.ensures.tally,
-  seen c.build.new.self c.strike_all.new.tasks.items c.deref.result.now c.deref.ensures.value c.build.ensures,
+  seen c.build.new.self c.strike_all.new.tasks.items c.deref.result.now c.deref.ensures.value c.build.ensures.index,
 )

@@ -10,7 +10,7 @@ pub invariant_of-self-2 : goal.invariant_of-self-2
 invariant_of-self-2 c = (
   kept-submitted c.self.inside.allowed c.self.inside.places c.self.inside.tally c.add.new.self c.self.inside.tasks.items c.push_reserved.new.self.items c.submitted-task.result c.args.phase c.args.at c.in_ok-command.command
       c.self.invariant.0 c.submitted-task.ensures (c.push_reserved.ensures.items ∙ ap (λ (z : List Task). z ++ c.submitted-task.result ∷ []) c.reserve.ensures.items) c.add.ensures.ended c.add.ensures.pending,
-  seen_all c.add-2.new.self c.self.inside.tasks.items c.deref.result.now c.push_reserved.new.self.items c.submitted-task.result c.len-count.result c.add-2.ensures (omega arith) c.deref.ensures.value
+  seen_all c.add-2.new.self c.self.inside.tasks.items c.deref.result.now c.push_reserved.new.self.items c.submitted-task.result c.len-count.result c.add-2.ensures.index (omega arith) c.deref.ensures.value
       (c.push_reserved.ensures.items ∙ ap (λ (z : List Task). z ++ c.submitted-task.result ∷ []) c.reserve.ensures.items),
 )
 

@@ -13,7 +13,7 @@ invariant_of-self c = (
   kept-after c.self.inside.allowed c.self.inside.places c.self.inside.tally c.self.inside.tally c.self.inside.tasks.items c.tell_within.new.tasks.items c.self.invariant.0
       (subst (λ (z : List Task). AreFallen c.self.inside.allowed c.self.inside.tasks.items z) (sym c.tell_within.ensures) (fallen-map c.self.inside.allowed told_task (falls_told c.self.inside.allowed) c.self.inside.tasks.items))
       (counted-told c.self.inside.tally c.self.inside.tasks.items c.tell_within.new.tasks.items c.tell_within.ensures),
-  subst (λ (z : List Task). IsIndexed c.settle.new.self z) (sym c.tell_within.ensures) (c.settle.ensures c.self.inside.tasks.items c.self.invariant.1),
+  subst (λ (z : List Task). IsIndexed c.settle.new.self z) (sym c.tell_within.ensures) (c.settle.ensures.index c.self.inside.tasks.items c.self.invariant.1),
 )
 
 pub returns : goal.returns
