@@ -1,7 +1,8 @@
 -- What becomes of the PDUs of one connection. The target's links are those of the other connections.
 use Rattle.std.specs.Prelude.{Bool, true, false, List, [], ◌∷◌, ◌++◌, map}
 use Rattle.oi_pdu.specs.declared.codec.Pdu.{Pdu}
-use Rattle.oi_target.specs.Targets.{Target, ended_by, next_handle, nexus_of, reset_links, session_of}
+use Rattle.oi_target.specs.Targets.{Reached, Target, ended_by, next_handle, nexus_of, reset_links, session_of}
+use Rattle.oi_target.specs.declared.link.Serving.{Serving}
 use Rattle.oi_target.specs.declared.link.Standing.{Standing}
 use Rattle.oi_target.specs.declared.link.Standing.TheVariants as standing
 use Rattle.oi_target_login.specs.Logins.{Turn, turned}
@@ -11,6 +12,7 @@ use Rattle.oi_target_login.specs.declared.answer.NewSession.{NewSession}
 use Rattle.oi_target_login.specs.declared.answer.Verdict.{Verdict}
 use Rattle.oi_target_login.specs.declared.answer.Verdict.TheVariants as verdict
 use Rattle.oi_target_session.specs.Arrivals.{Received, received}
+use Rattle.oi_target_session.specs.Owing.{owed_pdus, paid}
 use Rattle.oi_target_session.specs.Sessions.{without_resets}
 use Rattle.oi_target_session.specs.declared.fed.Fed.{Fed}
 use Rattle.oi_target_session.specs.declared.fed.Fed.TheVariants.{Going, Closed}
@@ -40,7 +42,7 @@ abbrev pub logged_in_by : Target → Answer → Verdict → Step
 logged_in_by t a verdict.Going = step_of t (standing.LoggingIn a.progress) (pdus_of a.pdu) Going
 logged_in_by t a verdict.Closed = closing t (pdus_of a.pdu)
 logged_in_by t a (verdict.Done s) =
-    step_of (opening t s) (standing.Serving (record { session = session_of s; held = [] })) (pdus_of a.pdu) Going
+    step_of (opening t s) (standing.Serving (record { session = session_of s; held = []; owed = [] })) (pdus_of a.pdu) Going
 
 -- a PDU of a login
 abbrev pub logged_in : Target → Turn → Step
@@ -48,21 +50,28 @@ logged_in t turn = logged_in_by (with_words t turn.words) turn.answer turn.answe
 
 abbrev pub serving_by : Fed → Received → Standing
 serving_by Closed r = standing.Closed
-serving_by Going r = standing.Serving (record { session = without_resets r.session; held = r.held })
+serving_by Going r = standing.Serving (record { session = without_resets r.session; held = r.held; owed = [] })
 
 -- a PDU of a session
+abbrev pub reached : Target → Reached → Target
+reached t r = record t { units = r.units; links = r.links }
+
 abbrev pub served_as : Target → Received → Step
-served_as t r = step_of (record t { units = r.units; links = reset_links r.session.resets t.links }) (serving_by r.fed r) r.sent r.fed
+served_as t r = step_of (reached t (reset_links r.session.resets r.units t.links)) (serving_by r.fed r) r.sent r.fed
+
+abbrev pub behind : List Pdu → Step → Step
+behind sent s = step_of s.target s.standing (sent ++ s.sent) s.fed
+
+-- what is owed goes out before it
+abbrev pub received_by : Serving → Target → Pdu → Received
+received_by v t pdu = received (paid v.session v.owed) t.units t.listing v.held pdu
 
 -- one PDU
 abbrev pub stepped : Target → Standing → Pdu → Step
 stepped t (standing.LoggingIn p) pdu = logged_in t (turned t.rules t.handle p pdu t.words)
-stepped t (standing.Serving v) pdu = served_as t (received v.session t.units t.listing v.held pdu)
+stepped t (standing.Serving v) pdu = behind (owed_pdus v.session v.owed) (served_as t (received_by v t pdu))
 stepped t standing.Ended pdu = closing t []
 stepped t standing.Closed pdu = closing t []
-
-abbrev pub behind : List Pdu → Step → Step
-behind sent s = step_of s.target s.standing (sent ++ s.sent) s.fed
 
 -- where the connection stays
 abbrev pub one_then : Fed → Step → Step → Step

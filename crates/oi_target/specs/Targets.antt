@@ -12,13 +12,16 @@ use Rattle.oi_target_login.specs.declared.answer.NewSession.{NewSession}
 use Rattle.oi_target_login.specs.declared.config.ChapConfig.{ChapConfig}
 use Rattle.oi_target_login.specs.declared.config.LoginRules.{LoginRules}
 use Rattle.oi_target_login.specs.declared.progress.Who.{Who}
-use Rattle.oi_target_session.specs.Sessions.{Session, new_session, reset_by}
+use Rattle.oi_target_session.specs.Owing.{unready, woken}
+use Rattle.oi_target_session.specs.Sessions.{Session, new_session, spared, with_tasks}
 use Rattle.oi_target_session.specs.declared.limits.Limits.{Limits}
 use Rattle.oi_target_session.specs.declared.reset.Reset.{Reset}
 use Rattle.oi_target.specs.declared.config.TargetConfig.{TargetConfig}
 use Rattle.oi_target.specs.declared.link.Link.{Link}
+use Rattle.oi_target.specs.declared.link.Serving.{Serving}
 use Rattle.oi_target.specs.declared.link.Standing.{Standing}
 use Rattle.oi_target.specs.declared.link.Standing.TheVariants as standing
+use Rattle.oi_target_tasks.specs.declared.task.Task.{Task}
 use Rattle.oi_units.specs.Units.{fresh_unit}
 use Rattle.oi_units.specs.declared.unit.LogicalUnit.{LogicalUnit}
 use Rattle.rand_chacha.specs.ChaCha.{ChaCha}
@@ -116,14 +119,43 @@ ended_standing nexus s = s
 abbrev pub ended_by : List ℕ → Link → Link
 ended_by nexus l = record { number = l.number; splitter = l.splitter; standing = ended_standing nexus l.standing }
 
--- a reset ends tasks of all sessions (SAM-5, section 7.7)
-abbrev pub reset_standing : Reset → Standing → Standing
-reset_standing reset (standing.Serving v) = standing.Serving (record { session = reset_by v.session reset; held = v.held })
-reset_standing reset s = s
+-- a reset ends tasks of all sessions (SAM-5, section 7.7). The commands of another session that stood behind these alone are executed at
+-- once, and their replies are owed
+pub record Learned : Type 0 where
+  pub units : List LogicalUnit
+  pub standing : Standing
 
-abbrev pub reset_link : Reset → Link → Link
-reset_link reset l = record { number = l.number; splitter = l.splitter; standing = reset_standing reset l.standing }
+-- a session from whose tasks these are spared
+abbrev pub learned_by : Serving → List LogicalUnit → List Task → Learned
+learned_by v units tasks = record {
+  units = (woken v.session.nexus units tasks).units;
+  standing = standing.Serving (record {
+    session = with_tasks v.session (unready tasks);
+    held = v.held;
+    owed = v.owed ++ (woken v.session.nexus units tasks).owed;
+  });
+}
 
-abbrev pub reset_links : List Reset → List Link → List Link
-reset_links [] links = links
-reset_links (reset ∷ resets) links = reset_links resets (map (reset_link reset) links)
+abbrev pub learned : Reset → List LogicalUnit → Standing → Learned
+learned reset units (standing.Serving v) = learned_by v units (spared reset v.session.tasks)
+learned reset units s = record { units = units; standing = s }
+
+-- the units and the connections behind resets
+pub record Reached : Type 0 where
+  pub units : List LogicalUnit
+  pub links : List Link
+
+abbrev pub reached_behind : Link → Reached → Reached
+reached_behind l r = record { units = r.units; links = l ∷ r.links }
+
+-- all connections learn of a reset, one after another
+abbrev pub reset_each : Reset → List LogicalUnit → List Link → Reached
+reset_each reset units [] = record { units = units; links = [] }
+reset_each reset units (l ∷ ls) =
+    reached_behind (link_at l.number l.splitter (learned reset units l.standing).standing)
+    (reset_each reset (learned reset units l.standing).units ls)
+
+-- and of resets, in order
+abbrev pub reset_links : List Reset → List LogicalUnit → List Link → Reached
+reset_links [] units links = record { units = units; links = links }
+reset_links (reset ∷ resets) units links = reset_links resets (reset_each reset units links).units (reset_each reset units links).links

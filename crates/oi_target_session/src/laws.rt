@@ -1,4 +1,5 @@
 ghost use Rattle.oi_target_session.specs.Executions.{RepliesAreSent, RunsExecute};
+ghost use Rattle.oi_target_session.specs.Owing.{WokenInOrder};
 ghost use Rattle.oi_target_session.specs.Runs.{RepliesInOrder, RunsJoin, UnitsInOrder};
 
 /// What becomes of PDUs depends on them and their order alone: those that came in two parts come to the same as in one.
@@ -9,10 +10,11 @@ pub fn parts_come_to_the_whole()
 
 /// Commands are executed one after another, in order, each on the units that the one before left, and the replies that are
 /// sent are those of the units. Nothing else that comes on a connection changes the units.
-#[tactic(auto, using(crate::proofs::Answered::replies_are_sent, crate::proofs::Executed::runs_execute, crate::proofs::Joins::units_in_order, crate::proofs::Joins::replies_in_order))]
+#[tactic(auto, using(crate::proofs::Answered::replies_are_sent, crate::proofs::Executed::runs_execute, crate::proofs::Joins::units_in_order, crate::proofs::Joins::replies_in_order, crate::proofs::Wakes::woken_in_order))]
 pub fn execution_is_sequential()
     ensures run { RunsExecute }
     ensures units { UnitsInOrder }
     ensures replies { RepliesInOrder }
     ensures sent { RepliesAreSent }
+    ensures woken { WokenInOrder }
 {}

@@ -28,7 +28,7 @@ use std::mem;
 #[derive(Debug, Drop)]
 pub struct Session {
     pub(crate) alloc: Global,
-    nexus: Nexus,
+    pub(crate) nexus: Nexus,
     discovers: bool,
     pub(crate) limits: Limits,
     pub(crate) numbers: Numbers,
@@ -250,7 +250,12 @@ impl Session {
     }
 
     // Writes the reply to a task.
-    fn reply(&mut self, task: &Task, reply: &UnitReply, out: &mut Vec<u8>) -> Result<(), NoMemory>
+    pub(crate) fn reply(
+        &mut self,
+        task: &Task,
+        reply: &UnitReply,
+        out: &mut Vec<u8>,
+    ) -> Result<(), NoMemory>
         requires { length reply.now.sent < 2 ^ 32 }
         ensures session { OnOk result (self.new ≡ counted self.old) }
         ensures out { OnOk result (out.new.items ≡ out.old.items ++ bytes_of (reply_pdus self.old task.now reply.now)) }
@@ -286,7 +291,7 @@ impl Session {
     }
 
     // The first task, where it is to be executed.
-    fn next_ready(&mut self) -> Option<Task>
+    pub(crate) fn next_ready(&mut self) -> Option<Task>
         ensures none { IfNone result (self.new ≡ self.old) }
         ensures stuck { IfNone result (is_stuck self.old.tasks ≡ true) }
         ensures some { IfSome result (λ t. (is_waiting t ≡ false) × (self.old.tasks ≡ t ∷ self.new.tasks) × (self.new ≡ with_tasks self.old self.new.tasks)) }
