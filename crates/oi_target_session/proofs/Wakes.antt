@@ -1,17 +1,13 @@
 -- Commands behind another session's reset are executed one after another, and their replies are written later.
-use Rattle.std.proofs.Common.{ℕ, Bool, true, false, ◌≡◌, ◌∙◌, List, [], ◌∷◌, ◌++◌, map, refl, ap, sym, subst, append-nil, append_assoc, if◌then◌else◌}
-use Rattle.std.proofs.lemmas.Grind.{flat_map-append}
-use Rattle.oi_pdu.specs.Wire.{encoding}
-use Rattle.oi_pdu.specs.declared.codec.Pdu.{Pdu}
+use Rattle.std.proofs.Common.{ℕ, Bool, true, false, ◌≡◌, ◌∙◌, List, [], ◌∷◌, ◌++◌, map, refl, ap, sym, subst, append_assoc, if◌then◌else◌}
 use Rattle.oi_target_session.specs.Answers.{bytes_of}
 use Rattle.oi_target_session.specs.Owing.{Owed, Woken, WokenInOrder, owed_pdus, owing, paid, reply_owed, unready, woken}
 use Rattle.oi_target_session.specs.Runs.{ready, request_of}
-use Rattle.oi_target_session.specs.Sessions.{Session, counted, reply_pdus, with_tasks}
-use Rattle.oi_target_tasks.specs.Tasks.{is_stuck, is_waiting}
+use Rattle.oi_target_session.specs.Sessions.{Session, with_tasks}
+use Rattle.oi_target_tasks.specs.Tasks.{is_waiting}
 use Rattle.oi_target_tasks.specs.declared.task.Task.{Task}
 use Rattle.oi_units.specs.Runs.{replies, units_after}
 use Rattle.oi_units.specs.Units.{executed}
-use Rattle.oi_units.specs.declared.command.UnitCommand.{UnitCommand}
 use Rattle.oi_units.specs.declared.reply.UnitReply.{UnitReply}
 use Rattle.oi_units.specs.declared.unit.LogicalUnit.{LogicalUnit}
 
@@ -20,31 +16,6 @@ pub record Wakes (s : Session) (units : List LogicalUnit) (owed : List Owed) (fi
   pub session : with_tasks s (unready s.tasks) ≡ with_tasks first (unready first.tasks)
   pub units_are : (woken s.nexus units s.tasks).units ≡ all.units
   pub joined : owed ++ (woken s.nexus units s.tasks).owed ≡ before ++ all.owed
-
--- none is left that is to be executed
-stuck_woken : (nexus : List ℕ) (units : List LogicalUnit) (ts : List Task) → is_stuck ts ≡ true → woken nexus units ts ≡ record { units = units; owed = [] }
-stuck_woken nexus units [] is = refl
-stuck_woken nexus units (t ∷ ts) is =
-    ap (λ (b : Bool). if b then record { units = units; owed = [] }
-    else owing t (executed units nexus t.command t.payload).reply (woken nexus (executed units nexus t.command t.payload).units ts)) is
-
-stuck_unready : (ts : List Task) → is_stuck ts ≡ true → unready ts ≡ ts
-stuck_unready [] is = refl
-stuck_unready (t ∷ ts) is = ap (λ (b : Bool). if b then t ∷ ts else unready ts) is
-
--- at the end
-pub record Woke (s : Session) (units : List LogicalUnit) (owed : List Owed) (first : Session) (all : Woken) (before : List Owed) : Type 0 where
-  pub session : s ≡ with_tasks first (unready first.tasks)
-  pub units_are : units ≡ all.units
-  pub joined : owed ≡ before ++ all.owed
-
-pub wakes_no_more : (s : Session) (units : List LogicalUnit) (owed : List Owed) (first : Session) (all : Woken) (before : List Owed)
-    → is_stuck s.tasks ≡ true → Wakes s units owed first all before → Woke s units owed first all before
-wakes_no_more s units owed first all before is w = record {
-  session = sym (ap (λ (z : List Task). with_tasks s z) (stuck_unready s.tasks is)) ∙ w.session;
-  units_are = sym (ap (λ (z : Woken). z.units) (stuck_woken s.nexus units s.tasks is)) ∙ w.units_are;
-  joined = sym (append-nil owed) ∙ sym (ap (λ (z : Woken). owed ++ z.owed) (stuck_woken s.nexus units s.tasks is)) ∙ w.joined;
-}
 
 -- the first task is executed
 one_woken : (nexus : List ℕ) (units : List LogicalUnit) (t : Task) (ts : List Task) → is_waiting t ≡ false
@@ -89,15 +60,6 @@ wakes_on s units units' owed owed' first all before t s' r who payload who_is pa
 pub record Pays (s : Session) (written : List ℕ) (left : List Owed) (first : Session) (all : List Owed) (before : List ℕ) : Type 0 where
   pub session : paid s left ≡ paid first all
   pub joined : written ++ bytes_of (owed_pdus s left) ≡ before ++ bytes_of (owed_pdus first all)
-
-pub pays_on : (s s' : Session) (written written' : List ℕ) (o : Owed) (left : List Owed) (first : Session) (all : List Owed) (before : List ℕ)
-    → s' ≡ counted s → written' ≡ written ++ bytes_of (reply_pdus s o.task o.reply)
-    → Pays s written (o ∷ left) first all before → Pays s' written' left first all before
-pays_on s s' written written' o left first all before counts out p = rw (counts, out) (record {
-  session = p.session;
-  joined = append_assoc written (bytes_of (reply_pdus s o.task o.reply)) (bytes_of (owed_pdus (counted s) left))
-      ∙ ap (λ (z : List ℕ). written ++ z) (sym (flat_map-append encoding (reply_pdus s o.task o.reply) (owed_pdus (counted s) left))) ∙ p.joined;
-})
 
 -- the replies that are owed are those of the units
 pub woken_in_order : WokenInOrder

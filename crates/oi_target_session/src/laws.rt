@@ -9,7 +9,8 @@ pub fn parts_come_to_the_whole()
 {}
 
 /// Commands are executed one after another, in order, each on the units that the one before left, and the replies that are
-/// sent are those of the units. Nothing else that comes on a connection changes the units.
+/// sent are those of the units. Nothing else that comes on a connection changes the units. What is executed behind another session's
+/// reset is so too, and the replies that are owed are those of the units.
 #[tactic(auto, using(crate::proofs::Answered::replies_are_sent, crate::proofs::Executed::runs_execute, crate::proofs::Joins::units_in_order, crate::proofs::Joins::replies_in_order, crate::proofs::Wakes::woken_in_order))]
 pub fn execution_is_sequential()
     ensures run { RunsExecute }

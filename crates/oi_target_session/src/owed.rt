@@ -30,11 +30,7 @@ impl Model for Owed {
 
 impl Session {
     /// Executes commands in order, up to the first one whose data are not complete. Their replies are owed.
-    pub fn execute_ready(
-        &mut self,
-        units: &mut Units,
-        owed: &mut Vec<Owed>,
-    ) -> Result<(), NoMemory>
+    pub fn execute_ready(&mut self, units: &mut Units, owed: &mut Vec<Owed>) -> Result<(), NoMemory>
         ensures session { OnOk result (self.new ≡ with_tasks self.old (unready self.old.tasks)) }
         ensures units { OnOk result (units.new ≡ (woken self.old.nexus units.old self.old.tasks).units) }
         ensures owed { OnOk result (owed.new.items ≡ owed.old.items ++ (woken self.old.nexus units.old self.old.tasks).owed) }

@@ -1,7 +1,7 @@
 use Rattle.std.specs.Vec.Iter.{into_iter_items}
 use Rattle.oi_target_login.specs.Grown.{IsGrown}
 use Rattle.oi_target_session.proofs.Wakes.{Pays}
-use Rattle.oi_target_session.proofs.owed.Session.pay.Given as goal
+use Rattle.oi_target_session.proofs.session.Session.pay.Given as goal
 
 abbrev pub invariant-loop-reply : goal.invariant-loop-reply
 invariant-loop-reply l =
