@@ -2,11 +2,12 @@
 use Rattle.std.proofs.Common.{ℕ, ◌≡◌, ◌∙◌, Some, List, [], ◌∷◌, map, refl, ap, sym}
 use Rattle.oi_pdu.specs.declared.codec.Pdu.{Pdu}
 use Rattle.oi_stream.specs.Feeding.{State}
+use Rattle.oi_target.proofs.Learned.{link_reached, relearned}
 use Rattle.oi_target.proofs.Placed.{link_map, link_placed, over, placed_map, placed_same, placed_twice}
 use Rattle.oi_target.specs.Events.{bare, bare_link, heard, shut}
 use Rattle.oi_target.specs.Feeding.{put_back}
-use Rattle.oi_target.specs.Steps.{Step, logged_in_by, one_then, stepped, steps, with_words}
-use Rattle.oi_target.specs.Targets.{Target, aside, closed_link, ended_by, ended_standing, link_at, link_of, nexus_of, no_bytes, placed, reset_link, reset_links, reset_standing, with_links}
+use Rattle.oi_target.specs.Steps.{Step, logged_in_by, one_then, reached, received_by, stepped, steps, with_words}
+use Rattle.oi_target.specs.Targets.{Learned, Reached, Target, aside, closed_link, ended_by, ended_standing, learned, link_at, link_of, nexus_of, no_bytes, placed, reached_behind, reset_each, reset_links, with_links}
 use Rattle.oi_target.specs.declared.link.Link.{Link}
 use Rattle.oi_target.specs.declared.link.Standing.{Standing}
 use Rattle.oi_target.specs.declared.link.Standing.TheVariants as standing
@@ -14,10 +15,10 @@ use Rattle.oi_target_login.specs.Logins.{turned}
 use Rattle.oi_target_login.specs.declared.answer.Answer.{Answer}
 use Rattle.oi_target_login.specs.declared.answer.Verdict.{Verdict}
 use Rattle.oi_target_login.specs.declared.answer.Verdict.TheVariants as verdict
-use Rattle.oi_target_session.specs.Arrivals.{received}
 use Rattle.oi_target_session.specs.declared.fed.Fed.{Fed}
 use Rattle.oi_target_session.specs.declared.fed.Fed.TheVariants.{Going, Closed}
 use Rattle.oi_target_session.specs.declared.reset.Reset.{Reset}
+use Rattle.oi_units.specs.declared.unit.LogicalUnit.{LogicalUnit}
 
 ended_shut : (nexus : List ℕ) (s : Standing) → shut (ended_standing nexus s) ≡ shut (ended_standing nexus (shut s))
 ended_shut nexus (standing.LoggingIn p) = refl
@@ -25,11 +26,14 @@ ended_shut nexus (standing.Serving v) = refl
 ended_shut nexus standing.Ended = refl
 ended_shut nexus standing.Closed = refl
 
-reset_shut : (reset : Reset) (s : Standing) → shut (reset_standing reset s) ≡ shut (reset_standing reset (shut s))
-reset_shut reset (standing.LoggingIn p) = refl
-reset_shut reset (standing.Serving v) = refl
-reset_shut reset standing.Ended = refl
-reset_shut reset standing.Closed = refl
+abbrev pub shut_learned : Learned → Learned
+shut_learned d = record { units = d.units; standing = shut d.standing }
+
+learned_shut : (reset : Reset) (units : List LogicalUnit) (s : Standing) → shut_learned (learned reset units s) ≡ shut_learned (learned reset units (shut s))
+learned_shut reset units (standing.LoggingIn p) = refl
+learned_shut reset units (standing.Serving v) = refl
+learned_shut reset units standing.Ended = refl
+learned_shut reset units standing.Closed = refl
 
 pub shut_twice : (s : Standing) → shut (shut s) ≡ shut s
 shut_twice (standing.LoggingIn p) = refl
@@ -43,11 +47,16 @@ ended_bare nexus (l ∷ ls) =
     ap (λ (s : Standing). link_at l.number no_bytes s ∷ map bare_link (map (ended_by nexus) (map bare_link ls))) (sym (ended_shut nexus l.standing))
     ∙ ap (λ (z : List Link). bare_link (ended_by nexus l) ∷ z) (ended_bare nexus ls)
 
-reset_bare : (reset : Reset) (ls : List Link) → map bare_link (map (reset_link reset) (map bare_link ls)) ≡ map bare_link (map (reset_link reset) ls)
-reset_bare reset [] = refl
-reset_bare reset (l ∷ ls) =
-    ap (λ (s : Standing). link_at l.number no_bytes s ∷ map bare_link (map (reset_link reset) (map bare_link ls))) (sym (reset_shut reset l.standing))
-    ∙ ap (λ (z : List Link). bare_link (reset_link reset l) ∷ z) (reset_bare reset ls)
+abbrev pub bare_reached : Reached → Reached
+bare_reached r = record { units = r.units; links = map bare_link r.links }
+
+each_bare : (reset : Reset) (units : List LogicalUnit) (ls : List Link)
+    → bare_reached (reset_each reset units (map bare_link ls)) ≡ bare_reached (reset_each reset units ls)
+each_bare reset units [] = refl
+each_bare reset units (l ∷ ls) =
+    ap (λ (d : Learned). reached_behind (link_at l.number no_bytes d.standing) (bare_reached (reset_each reset d.units (map bare_link ls))))
+    (sym (learned_shut reset units l.standing))
+    ∙ ap (λ (z : Reached). reached_behind (bare_link (relearned reset units l)) z) (each_bare reset (learned reset units l.standing).units ls)
 
 pub bare_twice : (ls : List Link) → map bare_link (map bare_link ls) ≡ map bare_link ls
 bare_twice [] = refl
@@ -55,12 +64,15 @@ bare_twice (l ∷ ls) =
     ap (λ (s : Standing). link_at l.number no_bytes s ∷ map bare_link (map bare_link ls)) (shut_twice l.standing)
     ∙ ap (λ (z : List Link). bare_link l ∷ z) (bare_twice ls)
 
-resets_bare : (resets : List Reset) (ls : List Link) → map bare_link (reset_links resets (map bare_link ls)) ≡ map bare_link (reset_links resets ls)
-resets_bare [] ls = bare_twice ls
-resets_bare (reset ∷ resets) ls =
-    sym (resets_bare resets (map (reset_link reset) (map bare_link ls)))
-    ∙ ap (λ (z : List Link). map bare_link (reset_links resets z)) (reset_bare reset ls)
-    ∙ resets_bare resets (map (reset_link reset) ls)
+resets_bare : (resets : List Reset) (units : List LogicalUnit) (ls : List Link)
+    → bare_reached (reset_links resets units (map bare_link ls)) ≡ bare_reached (reset_links resets units ls)
+resets_bare [] units ls = ap (λ (z : List Link). record { units = units; links = z }) (bare_twice ls)
+resets_bare (reset ∷ resets) units ls =
+    let barely : Reached = reset_each reset units (map bare_link ls) in
+    let fully : Reached = reset_each reset units ls in
+    sym (resets_bare resets barely.units barely.links)
+    ∙ ap (λ (z : Reached). bare_reached (reset_links resets z.units z.links)) (each_bare reset units ls)
+    ∙ resets_bare resets fully.units fully.links
 
 -- two steps that differ in bytes alone
 pub record AreAlike (a b : Step) : Type 0 where
@@ -84,7 +96,7 @@ step_alike t (standing.LoggingIn login) p =
     login_alike (with_words t (turned t.rules t.handle login p t.words).words) (turned t.rules t.handle login p t.words).answer
     (turned t.rules t.handle login p t.words).answer.verdict
 step_alike t (standing.Serving v) p = record {
-  target = ap (λ (z : List Link). with_links (stepped t (standing.Serving v) p).target z) (resets_bare (received v.session t.units t.listing v.held p).session.resets t.links);
+  target = ap (λ (z : Reached). reached t z) (resets_bare (received_by v t p).session.resets (received_by v t p).units t.links);
   standing = refl;
   sent = refl;
   fed = refl;
@@ -127,13 +139,18 @@ aside_ended n nexus ls a = record {
   closed = ap (ended_standing nexus) a.closed;
 }
 
-aside_resets : (n : ℕ) (resets : List Reset) (ls : List Link) → IsAside n ls → IsAside n (reset_links resets ls)
-aside_resets n [] ls a = a
-aside_resets n (reset ∷ resets) ls a = aside_resets n resets (map (reset_link reset) ls) (record {
-  link = reset_link reset a.link;
-  found = link_map (reset_link reset) (λ l. refl) n ls ∙ ap (over (reset_link reset)) a.found;
-  closed = ap (reset_standing reset) a.closed;
-})
+aside_resets : (n : ℕ) (resets : List Reset) (units : List LogicalUnit) (ls : List Link) → IsAside n ls → IsAside n (reset_links resets units ls).links
+aside_resets n [] units ls a = a
+aside_resets n (reset ∷ resets) units ls a = aside_resets n resets all.units all.links (record {
+  link = relearned reset found.0 a.link;
+  found = found.1 ∙ ap (over (relearned reset found.0)) a.found;
+  closed = ap (λ (s : Standing). (learned reset found.0 s).standing) a.closed;
+}) where
+  all : Reached
+  all = reset_each reset units ls
+
+  found : (u : List LogicalUnit) × (link_of n all.links ≡ over (relearned reset u) (link_of n ls))
+  found = link_reached n reset units ls
 
 aside_login : (n : ℕ) (t : Target) (a : Answer) (v : Verdict) → IsAside n t.links → IsAside n (logged_in_by t a v).target.links
 aside_login n t a verdict.Going h = h
@@ -144,7 +161,7 @@ pub aside_step : (n : ℕ) (t : Target) (s : Standing) (p : Pdu) → IsAside n t
 aside_step n t (standing.LoggingIn login) p h =
     aside_login n (with_words t (turned t.rules t.handle login p t.words).words) (turned t.rules t.handle login p t.words).answer
     (turned t.rules t.handle login p t.words).answer.verdict h
-aside_step n t (standing.Serving v) p h = aside_resets n (received v.session t.units t.listing v.held p).session.resets t.links h
+aside_step n t (standing.Serving v) p h = aside_resets n (received_by v t p).session.resets (received_by v t p).units t.links h
 aside_step n t standing.Ended p h = h
 aside_step n t standing.Closed p h = h
 

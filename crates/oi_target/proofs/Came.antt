@@ -6,7 +6,7 @@ use Rattle.oi_target.proofs.Bared.{IsAside, aside_step, heard_alike, seat, seat_
 use Rattle.oi_target.proofs.Placed.{link_map, link_placed, over, placed_none}
 use Rattle.oi_target.specs.Courses.{came, spoilt}
 use Rattle.oi_target.specs.Events.{Event, Whole, Malformed, Happened, bare, bare_link, happened, heard, heard_of, sent_to, shut, state_after}
-use Rattle.oi_target.specs.Steps.{Step, logged_in_by, one_then, serving_by, stepped, steps, with_words}
+use Rattle.oi_target.specs.Steps.{Step, logged_in_by, one_then, received_by, serving_by, stepped, steps, with_words}
 use Rattle.oi_target.specs.Targets.{Target, aside, closed_link, link_at, link_of, no_bytes, with_links}
 use Rattle.oi_target.specs.declared.config.TargetConfig.{TargetConfig}
 use Rattle.oi_target.specs.declared.link.Link.{Link}
@@ -16,7 +16,6 @@ use Rattle.oi_target_login.specs.Logins.{turned}
 use Rattle.oi_target_login.specs.declared.answer.Answer.{Answer}
 use Rattle.oi_target_login.specs.declared.answer.Verdict.{Verdict}
 use Rattle.oi_target_login.specs.declared.answer.Verdict.TheVariants as verdict
-use Rattle.oi_target_session.specs.Arrivals.{received}
 use Rattle.oi_target_session.specs.declared.fed.Fed.{Fed}
 use Rattle.oi_target_session.specs.declared.fed.Fed.TheVariants.{Going, Closed}
 
@@ -97,7 +96,7 @@ step_shuts t (standing.LoggingIn login) p e =
     login_shuts (with_words t (turned t.rules t.handle login p t.words).words) (turned t.rules t.handle login p t.words).answer
     (turned t.rules t.handle login p t.words).answer.verdict e
 step_shuts t (standing.Serving v) p e =
-    ap (λ (f : Fed). serving_by f (received v.session t.units t.listing v.held p)) e
+    ap (λ (f : Fed). serving_by f (received_by v t p)) e
 step_shuts t standing.Ended p e = refl
 step_shuts t standing.Closed p e = refl
 

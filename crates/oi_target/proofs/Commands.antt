@@ -1,12 +1,14 @@
 -- Commands of all connections, one after another.
 use Rattle.std.proofs.Common.{ℕ, ◌≡◌, ◌∙◌, Option, Some, None, List, [], ◌∷◌, ◌++◌, map, refl, ap, sym}
+use Rattle.std.proofs.lemmas.List.{map-append}
+use Rattle.std.specs.List.{flat_map}
 use Rattle.oi_pdu.specs.declared.codec.Pdu.{Pdu}
 use Rattle.oi_target.proofs.Courses.{courses_are_events}
-use Rattle.oi_target.proofs.Joins.{step_units}
+use Rattle.oi_target.proofs.Joins.{each_units, learned_units, step_units}
 use Rattle.oi_target.specs.Courses.{events_of}
 use Rattle.oi_target.specs.Events.{Event, Joined, Left, Told, Whole, Malformed, happened, heard_of, state_after}
-use Rattle.oi_target.specs.Runs.{AnswersAreReplies, CommandsInOrder, event_requests, link_requests, link_sent, replies_of, requests_of, step_requests, step_sent}
-use Rattle.oi_target.specs.Targets.{Target, aside, link_of}
+use Rattle.oi_target.specs.Runs.{AnswersAreReplies, CommandsInOrder, OwedAreReplies, event_requests, learned_requests, link_learned, link_own, link_requests, link_sent, owed_all, owed_by, owed_each, own_requests, replies_of, requests_of, reset_requests, step_sent}
+use Rattle.oi_target.specs.Targets.{Reached, Target, aside, learned, link_of, reset_each}
 use Rattle.oi_target.specs.declared.config.TargetConfig.{TargetConfig}
 use Rattle.oi_target.specs.declared.link.Link.{Link}
 use Rattle.oi_target.specs.Steps.{stepped}
@@ -14,7 +16,11 @@ use Rattle.oi_target.specs.declared.link.Standing.{Standing}
 use Rattle.oi_target.specs.declared.link.Standing.TheVariants as standing
 use Rattle.oi_target_session.proofs.Answered.{replies_are_sent}
 use Rattle.oi_target_session.proofs.Executed.{joined_units}
+use Rattle.oi_target_session.proofs.Wakes.{woken_in_order}
 use Rattle.oi_target_session.specs.Arrivals.{place_of}
+use Rattle.oi_target_session.specs.Owing.{Owed, owed_pdus, paid, reply_owed}
+use Rattle.oi_target_session.specs.Sessions.{spared}
+use Rattle.oi_target_session.specs.declared.reset.Reset.{Reset}
 use Rattle.oi_units.specs.Runs.{Request, replies, units_after}
 use Rattle.oi_units.specs.Units.{executed, fresh_unit}
 use Rattle.oi_units.specs.declared.reply.UnitReply.{UnitReply}
@@ -55,14 +61,15 @@ pub commands_in_order : CommandsInOrder
 commands_in_order c calls numbered =
     (ap (λ (t : Target). t.units) (courses_are_events c calls numbered) ∙ units_at c (events_of calls), replies_at c (events_of calls))
 
-step_answers : (t : Target) (s : Standing) (p : Pdu) → (stepped t s p).sent ≡ step_sent t s p (replies t.units (step_requests t s p))
+step_answers : (t : Target) (s : Standing) (p : Pdu) → (stepped t s p).sent ≡ step_sent t s p (replies t.units (own_requests t s p))
 step_answers t (standing.LoggingIn login) p = refl
 step_answers t (standing.Serving v) p =
-    replies_are_sent (place_of v.session.discovers v.session.numbers.exp.0 p.head) v.session t.units t.listing v.held p
+    ap (λ (z : List Pdu). owed_pdus v.session v.owed ++ z)
+    (replies_are_sent (place_of v.session.discovers v.session.numbers.exp.0 p.head) (paid v.session v.owed) t.units t.listing v.held p)
 step_answers t standing.Ended p = refl
 step_answers t standing.Closed p = refl
 
-link_answers : (t : Target) (n : ℕ) (o : Option Link) (p : Pdu) → (heard_of t n o p).sent ≡ link_sent t n o p (replies t.units (link_requests t n o p))
+link_answers : (t : Target) (n : ℕ) (o : Option Link) (p : Pdu) → (heard_of t n o p).sent ≡ link_sent t n o p (replies t.units (link_own t n o p))
 link_answers t n None p = refl
 link_answers t n (Some l) p = step_answers (aside n t) l.standing p
 
@@ -72,3 +79,36 @@ answers_are_replies t (Left n) = refl
 answers_are_replies t (Told listing) = refl
 answers_are_replies t (Whole n p) = link_answers t n (link_of n t.links) p
 answers_are_replies t (Malformed n) = refl
+
+-- what is owed
+owed_learned : (reset : Reset) (units : List LogicalUnit) (s : Standing) → map reply_owed (owed_by reset units s) ≡ replies units (learned_requests reset s)
+owed_learned reset units (standing.LoggingIn p) = refl
+owed_learned reset units (standing.Serving v) = (woken_in_order v.session.nexus units (spared reset v.session.tasks)).1
+owed_learned reset units standing.Ended = refl
+owed_learned reset units standing.Closed = refl
+
+-- behind a first part
+owed_join : (units after : List LogicalUnit) (owed more : List Owed) (first second : List Request)
+    → after ≡ units_after units first → map reply_owed owed ≡ replies units first → map reply_owed more ≡ replies after second
+    → map reply_owed (owed ++ more) ≡ replies units (first ++ second)
+owed_join units after owed more first second is one rest =
+    map-append reply_owed owed more
+    ∙ ap (λ (z : List UnitReply). z ++ map reply_owed more) one
+    ∙ ap (λ (z : List UnitReply). replies units first ++ z) (rest ∙ ap (λ (u : List LogicalUnit). replies u second) is)
+    ∙ sym (replies_join units first second)
+
+owed_each_are : (reset : Reset) (units : List LogicalUnit) (ls : List Link)
+    → map reply_owed (owed_each reset units ls) ≡ replies units (flat_map (link_learned reset) ls)
+owed_each_are reset units [] = refl
+owed_each_are reset units (l ∷ ls) =
+    let after : List LogicalUnit = (learned reset units l.standing).units in
+    owed_join units after (owed_by reset units l.standing) (owed_each reset after ls) (link_learned reset l) (flat_map (link_learned reset) ls)
+    (learned_units reset units l.standing) (owed_learned reset units l.standing) (owed_each_are reset after ls)
+
+pub owed_are_replies : OwedAreReplies
+owed_are_replies [] units ls = refl
+owed_are_replies (reset ∷ resets) units ls =
+    let all : Reached = reset_each reset units ls in
+    owed_join units all.units (owed_each reset units ls) (owed_all resets all.units all.links) (flat_map (link_learned reset) ls)
+    (reset_requests resets all.units all.links) (each_units reset units ls) (owed_each_are reset units ls)
+    (owed_are_replies resets all.units all.links)

@@ -5,6 +5,7 @@ pub mod Commands
 pub mod Courses
 pub mod Framed
 pub mod Joins
+pub mod Learned
 pub mod Linked
 pub mod Numbered
 pub mod Placed

@@ -1,8 +1,8 @@
 -- The connections of a target keep their numbers and their bytes while PDUs of one of them are served.
 use Rattle.std.proofs.Common.{ℕ, Bool, true, false, ◌≡◌, ◌∙◌, Some, None, List, [], ◌∷◌, map, refl, ap, sym, subst, if◌then◌else◌, ◌==◌}
 use Rattle.oi_pdu.specs.declared.codec.Pdu.{Pdu}
-use Rattle.oi_target.specs.Steps.{Step, logged_in_by, one_then, stepped, steps, with_words}
-use Rattle.oi_target.specs.Targets.{Target, ended_by, ended_standing, link_of, nexus_of, reset_link, reset_links, reset_standing}
+use Rattle.oi_target.specs.Steps.{Step, logged_in_by, one_then, received_by, stepped, steps, with_words}
+use Rattle.oi_target.specs.Targets.{Reached, Target, ended_by, ended_standing, learned, link_of, nexus_of, reset_each, reset_links}
 use Rattle.oi_target.specs.declared.link.Link.{Link}
 use Rattle.oi_target.specs.declared.link.Standing.{Standing}
 use Rattle.oi_target.specs.declared.link.Standing.TheVariants as standing
@@ -10,10 +10,10 @@ use Rattle.oi_target_login.specs.Logins.{turned}
 use Rattle.oi_target_login.specs.declared.answer.Answer.{Answer}
 use Rattle.oi_target_login.specs.declared.answer.Verdict.{Verdict}
 use Rattle.oi_target_login.specs.declared.answer.Verdict.TheVariants as verdict
-use Rattle.oi_target_session.specs.Arrivals.{received}
 use Rattle.oi_target_session.specs.declared.fed.Fed.{Fed}
 use Rattle.oi_target_session.specs.declared.fed.Fed.TheVariants.{Going, Closed}
 use Rattle.oi_target_session.specs.declared.reset.Reset.{Reset}
+use Rattle.oi_units.specs.declared.unit.LogicalUnit.{LogicalUnit}
 
 -- bytes of it are cut into PDUs
 abbrev pub is_open : Standing → Bool
@@ -52,24 +52,26 @@ ended_opens nexus (standing.Serving v) h = refl
 ended_opens nexus standing.Ended h = h
 ended_opens nexus standing.Closed h = h
 
-reset_opens : (reset : Reset) (s : Standing) → is_open (reset_standing reset s) ≡ true → is_open s ≡ true
-reset_opens reset (standing.LoggingIn p) h = refl
-reset_opens reset (standing.Serving v) h = refl
-reset_opens reset standing.Ended h = h
-reset_opens reset standing.Closed h = h
+learned_opens : (reset : Reset) (units : List LogicalUnit) (s : Standing) → is_open (learned reset units s).standing ≡ true → is_open s ≡ true
+learned_opens reset units (standing.LoggingIn p) h = refl
+learned_opens reset units (standing.Serving v) h = refl
+learned_opens reset units standing.Ended h = h
+learned_opens reset units standing.Closed h = h
 
 ended_kept : (nexus : List ℕ) (ls : List Link) → AreKept ls (map (ended_by nexus) ls)
 ended_kept nexus [] = tt
 ended_kept nexus (l ∷ ls) = (record { number = refl; splitter = refl; opens = ended_opens nexus l.standing }, ended_kept nexus ls)
 
-reset_kept : (reset : Reset) (ls : List Link) → AreKept ls (map (reset_link reset) ls)
-reset_kept reset [] = tt
-reset_kept reset (l ∷ ls) = (record { number = refl; splitter = refl; opens = reset_opens reset l.standing }, reset_kept reset ls)
+each_kept : (reset : Reset) (units : List LogicalUnit) (ls : List Link) → AreKept ls (reset_each reset units ls).links
+each_kept reset units [] = tt
+each_kept reset units (l ∷ ls) =
+    (record { number = refl; splitter = refl; opens = learned_opens reset units l.standing }, each_kept reset (learned reset units l.standing).units ls)
 
-resets_kept : (resets : List Reset) (ls : List Link) → AreKept ls (reset_links resets ls)
-resets_kept [] ls = kept_all ls
-resets_kept (reset ∷ resets) ls =
-    kept_through ls (map (reset_link reset) ls) (reset_links resets (map (reset_link reset) ls)) (reset_kept reset ls) (resets_kept resets (map (reset_link reset) ls))
+resets_kept : (resets : List Reset) (units : List LogicalUnit) (ls : List Link) → AreKept ls (reset_links resets units ls).links
+resets_kept [] units ls = kept_all ls
+resets_kept (reset ∷ resets) units ls =
+    let one : Reached = reset_each reset units ls in
+    kept_through ls one.links (reset_links resets one.units one.links).links (each_kept reset units ls) (resets_kept resets one.units one.links)
 
 login_kept : (t : Target) (a : Answer) (v : Verdict) → AreKept t.links (logged_in_by t a v).target.links
 login_kept t a verdict.Going = kept_all t.links
@@ -80,7 +82,7 @@ step_kept : (t : Target) (s : Standing) (p : Pdu) → AreKept t.links (stepped t
 step_kept t (standing.LoggingIn login) p =
     login_kept (with_words t (turned t.rules t.handle login p t.words).words) (turned t.rules t.handle login p t.words).answer
     (turned t.rules t.handle login p t.words).answer.verdict
-step_kept t (standing.Serving v) p = resets_kept (received v.session t.units t.listing v.held p).session.resets t.links
+step_kept t (standing.Serving v) p = resets_kept (received_by v t p).session.resets (received_by v t p).units t.links
 step_kept t standing.Ended p = kept_all t.links
 step_kept t standing.Closed p = kept_all t.links
 

@@ -259,4 +259,4 @@ only_logged_in_are_served t p pdu v e = go a.verdict refl e where
       → (s : NewSession) × (a.verdict ≡ verdict.Done s) × (v.session ≡ session_of s)
   go verdict.Going is e = absurd (let n : ⊥ = cc in n)
   go verdict.Closed is e = absurd (let n : ⊥ = cc in n)
-  go (verdict.Done s) is e = (s, is, sym (ap (λ (z : Serving). z.session) (one_serving (record { session = session_of s; held = [] }) v e)))
+  go (verdict.Done s) is e = (s, is, sym (ap (λ (z : Serving). z.session) (one_serving (record { session = session_of s; held = []; owed = [] }) v e)))

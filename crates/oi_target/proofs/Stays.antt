@@ -9,7 +9,7 @@ use Rattle.oi_target.proofs.Placed.{link_map, link_placed, over}
 use Rattle.oi_target.specs.Courses.{ClosesByEvents, Piece, course, stays, stays_at}
 use Rattle.oi_target.specs.Events.{bare_link, shut}
 use Rattle.oi_target.specs.Feeding.{Cut, Taken, cut_of, taken, taken_by, taken_of, taken_open}
-use Rattle.oi_target.specs.Steps.{Step, faulted, logged_in_by, one_then, serving_by, stepped, steps, with_words}
+use Rattle.oi_target.specs.Steps.{Step, faulted, logged_in_by, one_then, received_by, serving_by, stepped, steps, with_words}
 use Rattle.oi_target.specs.Targets.{Target, aside, closed_link, link_at, link_of}
 use Rattle.oi_target.specs.declared.link.Link.{Link}
 use Rattle.oi_target.specs.declared.link.Standing.{Standing}
@@ -18,7 +18,6 @@ use Rattle.oi_target_login.specs.Logins.{turned}
 use Rattle.oi_target_login.specs.declared.answer.Answer.{Answer}
 use Rattle.oi_target_login.specs.declared.answer.Verdict.{Verdict}
 use Rattle.oi_target_login.specs.declared.answer.Verdict.TheVariants as verdict
-use Rattle.oi_target_session.specs.Arrivals.{received}
 use Rattle.oi_target_session.specs.declared.fed.Fed.{Fed}
 use Rattle.oi_target_session.specs.declared.fed.Fed.TheVariants.{Going, Closed}
 
@@ -34,7 +33,7 @@ step_opens : (t : Target) (s : Standing) (p : Pdu) → (stepped t s p).fed ≡ G
 step_opens t (standing.LoggingIn login) p e =
     login_opens (with_words t (turned t.rules t.handle login p t.words).words) (turned t.rules t.handle login p t.words).answer
     (turned t.rules t.handle login p t.words).answer.verdict e
-step_opens t (standing.Serving v) p e = ap (λ (f : Fed). is_open (serving_by f (received v.session t.units t.listing v.held p))) e
+step_opens t (standing.Serving v) p e = ap (λ (f : Fed). is_open (serving_by f (received_by v t p))) e
 step_opens t standing.Ended p e = closed_going e
 step_opens t standing.Closed p e = closed_going e
 

@@ -12,10 +12,9 @@ use Rattle.oi_target.specs.declared.link.Standing.{Standing}
 use Rattle.oi_target.specs.declared.link.Standing.TheVariants as standing
 use Rattle.oi_target_session.specs.Arrivals.{place_of}
 use Rattle.oi_target_session.specs.Executions.{if_going, requests_at, sent_at}
-use Rattle.oi_target_session.specs.Owing.{owed_pdus, paid, reply_owed, woken}
+use Rattle.oi_target_session.specs.Owing.{Owed, owed_pdus, paid, reply_owed, woken}
 use Rattle.oi_target_session.specs.Runs.{ready, request_of}
 use Rattle.oi_target_session.specs.Sessions.{spared}
-use Rattle.oi_target_session.specs.declared.owed.Owed.{Owed}
 use Rattle.oi_target_session.specs.declared.reset.Reset.{Reset}
 use Rattle.oi_units.specs.Runs.{Request, replies, units_after}
 use Rattle.oi_units.specs.Units.{fresh_unit}

@@ -1,5 +1,5 @@
 ghost use Rattle.oi_target.specs.Courses.{ClosesByEvents, CoursesAreEvents, CutsDoNotMatter, PdusAreFramed, WritesAreOfEvents};
-ghost use Rattle.oi_target.specs.Runs.{AnswersAreReplies, CommandsInOrder, StepsExecute, StepsJoin};
+ghost use Rattle.oi_target.specs.Runs.{AnswersAreReplies, CommandsInOrder, OwedAreReplies, StepsExecute, StepsJoin};
 ghost use Rattle.oi_target.specs.Shown.{OnlyLoggedInAreServed, OnlyProvedLogIn};
 
 /// A target is a function of what came to it since it was made: connections that were accepted or are gone, listings, and the PDUs
@@ -20,12 +20,13 @@ pub fn cuts_do_not_matter()
 {}
 
 /// The logical units change by the commands that are executed alone, one after another, and reply as units that are asked nothing
-/// else. What is sent in answer to commands are these replies.
+/// else. What is sent in answer to commands are these replies, and what is owed for those behind another session's reset is too.
 #[tactic(auto, using(crate::proofs::Joins::steps_execute))]
 pub fn units_change_by_execution()
     ensures whole { CommandsInOrder }
     ensures answers { AnswersAreReplies }
     ensures steps { StepsExecute }
+    ensures owed { OwedAreReplies }
 {}
 
 /// At a target that asks for CHAP a normal session stands only for an initiator that, in the login that led to it, was challenged and

@@ -1,7 +1,7 @@
 use oi_pdu::Pdu;
 use oi_stream::Splitter;
 use oi_target_login::TargetLogin;
-use oi_target_session::Session;
+use oi_target_session::{Owed, Session};
 use std::collections::VecDeque;
 use std::marker::Model;
 
@@ -20,11 +20,27 @@ impl Model for Held {
     ghost view = { λ h. h.pdus.items };
 }
 
+/// Replies to commands that were executed behind another session's reset: the connection's next PDU lets them be written.
+#[derive(Debug, Drop)]
+pub struct Debts {
+    pub replies: Vec<Owed>,
+}
+
+impl Model for Debts {
+    ghost use Rattle.std.specs.Prelude.{List};
+    ghost use Rattle.oi_target_session.specs.Owing.{Owed};
+
+    ghost Value = { List Owed };
+
+    ghost view = { λ d. d.replies.items };
+}
+
 /// A connection in its full feature phase.
 #[derive(Debug, Drop)]
 pub struct Serving {
     pub session: Session,
     pub held: Held,
+    pub owed: Debts,
 }
 
 /// Where a connection stands.

@@ -1,17 +1,19 @@
 ghost use Rattle.std.specs.Prelude.{◌≡◌, ◌++◌, [], bytes_eq, map, IfOk, OnErr, OnOk};
 ghost use Rattle.oi_target.specs.Feeding.{wire};
-ghost use Rattle.oi_target.specs.Steps.{Step, logged_in, logged_in_by, opening, served_as, stepped, steps, with_words};
-ghost use Rattle.oi_target.specs.Targets.{ended_by, ended_standing, limits_of, next_handle, nexus_of, reset_link, reset_links, reset_standing, session_of, with_links};
+ghost use Rattle.oi_target.specs.Steps.{Step, logged_in, logged_in_by, opening, reached, received_by, served_as, stepped, steps, with_words};
+ghost use Rattle.oi_target.specs.Targets.{ended_by, ended_standing, learned, learned_by, limits_of, link_at, next_handle, nexus_of, reset_each, reset_links, session_of, with_links};
 ghost use Rattle.oi_target_login.specs.Grown.{IsGrown};
 ghost use Rattle.oi_target_session.specs.Arrivals.{received};
+ghost use Rattle.oi_target_session.specs.Owing.{owed_pdus, paid};
 
-use crate::link::{Held, Link, Serving, Standing};
+use crate::link::{Debts, Held, Link, Serving, Standing};
 use crate::target::Target;
 use oi_base::{Blob, NoMemory, Params};
 use oi_pdu::Pdu;
 use oi_reserve::Nexus;
 use oi_target_login::{NewSession, TargetLogin, Verdict, Who};
 use oi_target_session::{Fed, Limits, Numbers, Reset, Session, receive};
+use oi_units::Units;
 use std::alloc::Global;
 use std::collections::VecDeque;
 
@@ -73,29 +75,39 @@ fn end_links(links: &mut Vec<Link>, nexus: &[u8])
     }
 }
 
-fn reset_link(link: &mut Link, reset: Reset)
-    ensures { link.new ≡ reset_link reset link.old }
+// Ends the tasks that a reset ends, and executes the commands behind them.
+fn reset_link(link: &mut Link, units: &mut Units, reset: Reset) -> Result<(), NoMemory>
+    ensures units { OnOk result (units.new ≡ (learned reset units.old link.old.standing).units) }
+    ensures link { OnOk result (link.new ≡ link_at link.old.number link.old.splitter (learned reset units.old link.old.standing).standing) }
 {
     if let Standing::Serving(serving) = &mut link.standing {
         serving.session.reset_by(reset);
+        serving
+            .session
+            .execute_ready(units, &mut serving.owed.replies)?;
     }
+    Ok(())
 }
 
-fn reset_each(links: &mut Vec<Link>, reset: Reset)
-    ensures { links.new.items ≡ map (reset_link reset) links.old.items }
+fn reset_each(links: &mut Vec<Link>, units: &mut Units, reset: Reset) -> Result<(), NoMemory>
+    ensures units { OnOk result (units.new ≡ (reset_each reset units.old links.old.items).units) }
+    ensures links { OnOk result (links.new.items ≡ (reset_each reset units.old links.old.items).links) }
 {
     for link in links.iter_mut() {
-        reset_link(link, reset);
+        reset_link(link, units, reset)?;
     }
+    Ok(())
 }
 
 // Tells the other sessions of resets, in order.
-fn reset_links(links: &mut Vec<Link>, resets: &[Reset])
-    ensures { links.new.items ≡ reset_links resets.now links.old.items }
+fn reset_links(links: &mut Vec<Link>, units: &mut Units, resets: &[Reset]) -> Result<(), NoMemory>
+    ensures units { OnOk result (units.new ≡ (reset_links resets.now units.old links.old.items).units) }
+    ensures links { OnOk result (links.new.items ≡ (reset_links resets.now units.old links.old.items).links) }
 {
     for reset in resets {
-        reset_each(links, *reset);
+        reset_each(links, units, *reset)?;
     }
+    Ok(())
 }
 
 impl Target {
@@ -104,6 +116,7 @@ impl Target {
         ensures target { OnOk result (self.new ≡ opening self.old session) }
         ensures session { IfOk result (λ v. v.session ≡ session_of session) }
         ensures held { IfOk result (λ v. v.held ≡ []) }
+        ensures owed { IfOk result (λ v. v.owed ≡ []) }
     {
         let nexus = nexus_of(self.alloc, &session.who)?;
         end_links(&mut self.links, nexus.bytes.as_slice());
@@ -117,6 +130,9 @@ impl Target {
             session: Session::new(self.alloc, nexus, session.who.discovers, limits, numbers),
             held: Held {
                 pdus: VecDeque::new(self.alloc),
+            },
+            owed: Debts {
+                replies: Vec::new(self.alloc),
             },
         })
     }
@@ -159,9 +175,14 @@ impl Target {
         ensures out { OnOk result (out.new.items ≡ out.old.items ++ wire (stepped self.old (Standing.Serving serving) pdu).sent) }
         ensures kept { OnErr result (IsGrown out.old.items out.new.items) }
     {
-        let Serving { session, held } = serving;
+        let Serving {
+            session,
+            held,
+            owed,
+        } = serving;
         let mut session = session;
         let mut pdus = held.pdus;
+        session.pay(owed.replies, out)?;
         let fed = receive(
             &mut session,
             &mut self.units,
@@ -171,11 +192,14 @@ impl Target {
             out,
         )?;
         let resets = session.take_resets();
-        reset_links(&mut self.links, &resets);
+        reset_links(&mut self.links, &mut self.units, &resets)?;
         let standing = match fed {
             Fed::Going => Standing::Serving(Serving {
                 session,
                 held: Held { pdus },
+                owed: Debts {
+                    replies: Vec::new(self.alloc),
+                },
             }),
             Fed::Closed => Standing::Closed,
         };
