@@ -1,10 +1,8 @@
 ghost use Rattle.std.specs.Prelude.{◌≡◌, ◌++◌, [], bytes_eq, map, IfOk, OnErr, OnOk};
 ghost use Rattle.oi_target.specs.Feeding.{wire};
-ghost use Rattle.oi_target.specs.Steps.{Step, logged_in, logged_in_by, opening, reached, received_by, served_as, stepped, steps, with_words};
-ghost use Rattle.oi_target.specs.Targets.{ended_by, ended_standing, learned, learned_by, limits_of, link_at, next_handle, nexus_of, reset_each, reset_links, session_of, with_links};
+ghost use Rattle.oi_target.specs.Steps.{Step, logged_in, logged_in_by, opening, served_as, stepped, steps, with_words};
+ghost use Rattle.oi_target.specs.Targets.{ended_by, ended_standing, learned, limits_of, link_at, next_handle, nexus_of, reset_each, reset_links, session_of, with_links};
 ghost use Rattle.oi_target_login.specs.Grown.{IsGrown};
-ghost use Rattle.oi_target_session.specs.Arrivals.{received};
-ghost use Rattle.oi_target_session.specs.Owing.{owed_pdus, paid};
 
 use crate::link::{Debts, Held, Link, Serving, Standing};
 use crate::target::Target;

@@ -52,12 +52,25 @@ const READ_BACK: &str =
 const READ: &str =
     "01c10000000000000000000000000000000000050004b000000000010000000328000000000000025800000000000000";
 
-// ABORT TASK of tag 5, and TARGET WARM RESET.
+// WRITE(10) of one block to unit 1 under tag 6, with its data at once, and READ(10) of that block in another session.
+const OTHER_WRITE: &str =
+    "01a10000000002000001000000000000000000060000020000000002000000032a000000000000000100000000000000";
+
+const OTHER_READ: &str =
+    "01c100000000000000010000000000000000000a00000200000000010000000428000000000000000100000000000000";
+
+// ABORT TASK of tag 5, LOGICAL UNIT RESET of unit 0 and TARGET WARM RESET, with the answer to either.
 const ABORT: &str =
     "428100000000000000000000000000000000000900000005000000030000000300000000000000000000000000000000";
 
+const UNIT_RESET: &str =
+    "4285000000000000000000000000000000000009ffffffff000000010000000300000000000000000000000000000000";
+
 const RESET: &str =
     "4286000000000000000000000000000000000009ffffffff000000010000000300000000000000000000000000000000";
+
+const WAS_RESET: &str =
+    "228000000000000000000000000000000000000900000000000000030000000100000020000000000000000000000000";
 
 fn listed(alloc: Global, name: &str) -> Result<Found, Fail> {
     let (portal, _) = Portal::read(alloc, "127.0.0.1:3260")?;
@@ -76,14 +89,14 @@ fn listing(alloc: Global) -> Result<Series<Found>, Fail> {
 }
 
 fn settings(alloc: Global) -> Result<TargetConfig, Fail>
-    ensures { IfOk result (λ c. c.blocks ≡ 1024 ∷ []) }
+    ensures { IfOk result (λ c. c.blocks ≡ 1024 ∷ 1024 ∷ []) }
 {
     let (portal, _) = Portal::read(alloc, "127.0.0.1:3260")?;
     Ok(TargetConfig {
         name: IscsiName::read(alloc, "iqn.2024-01.org.example:d1")?,
         portal,
         tag: 1,
-        blocks: Series::from_vec(vec![in alloc; 1024]?),
+        blocks: Series::from_vec(vec![in alloc; 1024, 1024]?),
         chap: None,
         listing: listing(alloc)?,
         moved: None,
@@ -304,19 +317,35 @@ fn a_second_login_of_one_initiator_port(rt: HostRuntime) -> Result<(), Fail> {
     Ok(())
 }
 
-// A reset by one session ends the tasks of the others; what stands behind them is executed at the next PDU of their own.
+// A reset by one session ends the tasks of the others.
 #[test]
 fn a_reset_ends_tasks_of_all_sessions(rt: HostRuntime) -> Result<(), Fail> {
     let mut bench = serving(rt.alloc())?;
     bench.logs_in(2, 2, FIRST)?;
     bench.goes_on(&rt, 1, WRITE, ASKED)?;
+    bench.goes_on(&rt, 2, RESET, WAS_RESET)?;
+    bench.goes_on(&rt, 1, LATER_CAPACITY, LATER_BLOCKS)
+}
+
+// A write to another unit that stood behind one that a reset ended is executed at once, so that the session of the reset reads its
+// data. What it is answered goes out before the answer to the next PDU.
+#[test]
+fn a_command_behind_a_reset(rt: HostRuntime) -> Result<(), Fail> {
+    let a = rt.alloc();
+    let mut bench = serving(a)?;
+    bench.logs_in(2, 2, FIRST)?;
+    bench.goes_on(&rt, 1, WRITE, ASKED)?;
+    bench.answers(&rt, 1, (OTHER_WRITE, 512), (Fed::Going, ""))?;
+    bench.goes_on(&rt, 2, UNIT_RESET, WAS_RESET)?;
+    let bytes = hex::decode(a, OTHER_READ)?;
+    assert_eq!(rt; bench.meets(2, &bytes)?, Fed::Going);
+    assert!(rt; bench.out.ends_with(vec![in a; 0x5a; 512]?.as_slice()));
     bench.goes_on(
         &rt,
-        2,
-        RESET,
-        "228000000000000000000000000000000000000900000000000000030000000100000020000000000000000000000000",
-    )?;
-    bench.goes_on(&rt, 1, LATER_CAPACITY, LATER_BLOCKS)
+        1,
+        "01c100000000000000000000000000000000000700000008000000030000000325000000000000000000000000000000",
+        "2180000000000000000000000000000000000006000000000000000300000003000000220000000000000000000000002581000000000008000000000000000000000007ffffffff000000040000000400000023000000000000000000000000000003ff00000200",
+    )
 }
 
 // Two targets with one address each are listed, and none after the listing was replaced. A command closes a discovery.
