@@ -7,7 +7,7 @@ use Rattle.oi_target.proofs.Bared.{IsAside, aside_step, is_aside}
 use Rattle.oi_target.proofs.Numbered.{others_found}
 use Rattle.oi_target.proofs.Placed.{link_map, link_placed, others_placed, over}
 use Rattle.oi_target.specs.Events.{Event, Joined, Left, Told, Whole, Malformed, bare_link, happened, heard_of, shut, state_after}
-use Rattle.oi_target.specs.Runs.{link_requests}
+use Rattle.oi_target.specs.Runs.{link_own}
 use Rattle.oi_target.specs.Steps.{Step, stepped}
 use Rattle.oi_target.specs.Targets.{Target, aside, closed_link, link_at, link_of, new_link, no_bytes, placed, without}
 use Rattle.oi_target.specs.declared.config.TargetConfig.{TargetConfig}
@@ -15,10 +15,11 @@ use Rattle.oi_target.specs.declared.link.Link.{Link}
 use Rattle.oi_target.specs.declared.link.Standing.{Standing}
 use Rattle.oi_target.specs.declared.link.Standing.TheVariants as standing
 use Rattle.oi_target_laws.proofs.Idle.{OneIsBusy, busy_behind, busy_map, busy_placed, busy_without, idle_tasks}
+use Rattle.oi_target_laws.proofs.Learning.{over_standing}
 use Rattle.oi_target_laws.proofs.Moves.{Moves, ends, moves_on, stays}
-use Rattle.oi_target_laws.proofs.Steps.{other_moves, other_stuck, over_standing, own_moves, own_stuck, step_busy}
-use Rattle.oi_target_laws.specs.Histories.{EachIsAccounted, ExecutedInOrder, ReadyAreExecuted, came_on, ended_on, event_ended, event_executed, event_turns, executed_on, hit_by, link_ended, link_taken, link_turns, or_taken, standing_in, standing_of, step_turns, tasks_at, tasks_in, turns_on, unless_turns, waiting_on, was_hit}
-use Rattle.oi_target_laws.specs.Turned.{Turned, came_in, command_of_request, commands_of}
+use Rattle.oi_target_laws.proofs.Steps.{other_moves, other_stuck, own_moves, own_stuck, step_busy}
+use Rattle.oi_target_laws.specs.Histories.{EachIsAccounted, ExecutedInOrder, ReadyAreExecuted, came_on, ended_on, event_ended, event_executed, event_turns, executed_on, link_ended, link_taken, link_turns, link_woken, standing_in, standing_of, tasks_at, tasks_in, turns_on, waiting_on}
+use Rattle.oi_target_laws.specs.Turned.{came_in, command_of_request, commands_of}
 use Rattle.oi_target_tasks.specs.Tasks.{is_stuck}
 use Rattle.oi_target_tasks.specs.declared.task.Task.{Task}
 use Rattle.oi_units.specs.declared.command.UnitCommand.{UnitCommand}
@@ -100,7 +101,7 @@ lost_moves n m t ls mine other = go (m == n) refl where
 
 link_moves : (n m : ℕ) (t : Target) (p : Pdu) (o : Option Link) → link_of m t.links ≡ o
     → Moves (commands_of (tasks_in n t.links)) (flat_map came_in (if m == n then link_turns t m o p else []))
-    (if m == n then map command_of_request (link_requests t m o p) else [])
+    (if m == n then map command_of_request (link_own t m o p) else commands_of (link_woken t m o p (standing_in n t.links)))
     (if m == n then link_ended t m o p else commands_of (link_taken t m o p (standing_in n t.links)))
     (commands_of (tasks_in n (heard_of t m o p).target.links))
 link_moves n m t p None found = go (m == n) where
@@ -114,25 +115,24 @@ link_moves n m t p (Some l) found = go (m == n) refl where
 
   go : (b : Bool) → (m == n) ≡ b
       → Moves (commands_of (tasks_in n t.links)) (flat_map came_in (if b then link_turns t m (Some l) p else []))
-      (if b then map command_of_request (link_requests t m (Some l) p) else [])
+      (if b then map command_of_request (link_own t m (Some l) p) else commands_of (link_woken t m (Some l) p (standing_in n t.links)))
       (if b then link_ended t m (Some l) p else commands_of (link_taken t m (Some l) p (standing_in n t.links)))
       (commands_of (tasks_in n (heard_of t m (Some l) p).target.links))
   go true is =
-      subst (λ (k : ℕ). Moves (commands_of (tasks_in k t.links)) (flat_map came_in (link_turns t m (Some l) p)) (map command_of_request (link_requests t m (Some l) p))
+      subst (λ (k : ℕ). Moves (commands_of (tasks_in k t.links)) (flat_map came_in (link_turns t m (Some l) p)) (map command_of_request (link_own t m (Some l) p))
       (link_ended t m (Some l) p) (commands_of (tasks_in k (heard_of t m (Some l) p).target.links))) (eqb-true m n is)
-      (subst (λ (z : List Task). Moves (commands_of z) (flat_map came_in (link_turns t m (Some l) p)) (map command_of_request (link_requests t m (Some l) p))
+      (subst (λ (z : List Task). Moves (commands_of z) (flat_map came_in (link_turns t m (Some l) p)) (map command_of_request (link_own t m (Some l) p))
       (link_ended t m (Some l) p) (commands_of (tasks_in m (heard_of t m (Some l) p).target.links))) (sym (ap (λ (o : Option Link). tasks_at (standing_of o)) found))
-      (subst (λ (z : List Task). Moves (commands_of (tasks_at l.standing)) (flat_map came_in (link_turns t m (Some l) p)) (map command_of_request (link_requests t m (Some l) p))
+      (subst (λ (z : List Task). Moves (commands_of (tasks_at l.standing)) (flat_map came_in (link_turns t m (Some l) p)) (map command_of_request (link_own t m (Some l) p))
       (link_ended t m (Some l) p) (commands_of z)) (sym (own_tasks m s.standing s.target.links (aside_step m (aside m t) l.standing p (is_aside m t.links l found))))
       (own_moves (aside m t) l.standing p)))
   go false is =
-      subst (λ (z : Standing). Moves (commands_of (tasks_at z)) [] [] (commands_of (link_taken t m (Some l) p z)) (commands_of (tasks_in n (heard_of t m (Some l) p).target.links)))
+      subst (λ (z : Standing). Moves (commands_of (tasks_at z)) [] (commands_of (link_woken t m (Some l) p z)) (commands_of (link_taken t m (Some l) p z))
+      (commands_of (tasks_in n (heard_of t m (Some l) p).target.links)))
       (aside_standing n m t is)
-      (subst (λ (z : List Task). Moves (commands_of (tasks_in n (aside m t).links)) [] [] (commands_of (link_taken t m (Some l) p (standing_in n (aside m t).links))) (commands_of z))
+      (subst (λ (z : List Task). Moves (commands_of (tasks_in n (aside m t).links)) [] (commands_of (link_woken t m (Some l) p (standing_in n (aside m t).links)))
+      (commands_of (link_taken t m (Some l) p (standing_in n (aside m t).links))) (commands_of z))
       (sym (other_tasks n m s.standing s.target.links is)) (other_moves n (aside m t) l.standing p))
-
-requests_are : (n m : ℕ) (t : Target) (p : Pdu) → event_executed n t (Whole m p) ≡ (if m == n then map command_of_request (link_requests t m (link_of m t.links) p) else [])
-requests_are n m t p = refl
 
 event_moves : (n : ℕ) (t : Target) (e : Event) → OneIsBusy n t.links → EventMoves n t e
 event_moves n t (Joined m) i = same_moves (tasks_in n t.links) (tasks_in n (t.links ++ new_link m ∷ [])) (new_tasks n m t.links)
@@ -184,41 +184,25 @@ each_is_accounted n c es f = (all_moves n c es).count f
 
 -- what is complete was executed
 
-no_turns : (ts : List Turned) (was : Bool) → unless_turns ts was ≡ false → ts ≡ [] → was ≡ false
-no_turns [] was h e = h
-no_turns (t ∷ ts) was h e = absurd (let n : ⊥ = cc in n)
-
-none_taken : (ts : List Task) (was : Bool) → or_taken ts was ≡ false → (ts ≡ []) × (was ≡ false)
-none_taken [] was h = (refl, h)
-none_taken (t ∷ ts) was h = absurd (let n : ⊥ = cc in n)
-
-link_stuck : (n m : ℕ) (t : Target) (p : Pdu) (o : Option Link) (was : Bool) → link_of m t.links ≡ o → (was ≡ false → is_stuck (tasks_in n t.links) ≡ true)
-    → (if m == n then unless_turns (link_turns t m o p) was else or_taken (link_taken t m o p (standing_in n t.links)) was) ≡ false
+link_stuck : (n m : ℕ) (t : Target) (p : Pdu) (o : Option Link) → link_of m t.links ≡ o → is_stuck (tasks_in n t.links) ≡ true
     → is_stuck (tasks_in n (heard_of t m o p).target.links) ≡ true
-link_stuck n m t p None was found before h = go (m == n) h where
-  go : (b : Bool) → (if b then was else was) ≡ false → is_stuck (tasks_in n t.links) ≡ true
-  go true e = before e
-  go false e = before e
-link_stuck n m t p (Some l) was found before h = go (m == n) refl h where
+link_stuck n m t p None found was = was
+link_stuck n m t p (Some l) found was = go (m == n) refl where
   s : Step
   s = stepped (aside m t) l.standing p
 
-  mine : m ≡ n → unless_turns (step_turns (aside m t) l.standing p) was ≡ false → is_stuck (tasks_in n (heard_of t m (Some l) p).target.links) ≡ true
-  mine same e =
+  mine : m ≡ n → is_stuck (tasks_in n (heard_of t m (Some l) p).target.links) ≡ true
+  mine same =
       subst (λ (k : ℕ). is_stuck (tasks_in k (heard_of t m (Some l) p).target.links) ≡ true) same
       (ap is_stuck (own_tasks m s.standing s.target.links (aside_step m (aside m t) l.standing p (is_aside m t.links l found)))
       ∙ own_stuck (aside m t) l.standing p
-      (λ none. ap (λ (o : Option Link). is_stuck (tasks_at (standing_of o))) (sym found)
-      ∙ subst (λ (k : ℕ). is_stuck (tasks_in k t.links) ≡ true) (sym same) (before (no_turns (step_turns (aside m t) l.standing p) was e none))))
+      (ap (λ (o : Option Link). is_stuck (tasks_at (standing_of o))) (sym found) ∙ subst (λ (k : ℕ). is_stuck (tasks_in k t.links) ≡ true) (sym same) was))
 
-  go : (b : Bool) → (m == n) ≡ b → (if b then unless_turns (link_turns t m (Some l) p) was else or_taken (link_taken t m (Some l) p (standing_in n t.links)) was) ≡ false
-      → is_stuck (tasks_in n (heard_of t m (Some l) p).target.links) ≡ true
-  go true is e = mine (eqb-true m n is) e
-  go false is e =
-      let parts = none_taken (link_taken t m (Some l) p (standing_in n t.links)) was e in
+  go : (b : Bool) → (m == n) ≡ b → is_stuck (tasks_in n (heard_of t m (Some l) p).target.links) ≡ true
+  go true is = mine (eqb-true m n is)
+  go false is =
       ap is_stuck (other_tasks n m s.standing s.target.links is)
-      ∙ other_stuck n (aside m t) l.standing p (subst (λ (z : Standing). link_taken t m (Some l) p z ≡ []) (sym (aside_standing n m t is)) parts.0)
-      (ap (λ (z : Standing). is_stuck (tasks_at z)) (aside_standing n m t is) ∙ before parts.1)
+      ∙ other_stuck n (aside m t) l.standing p (ap (λ (z : Standing). is_stuck (tasks_at z)) (aside_standing n m t is) ∙ was)
 
 -- where the connection closes or is gone
 lost_stuck : (n m : ℕ) (t : Target) (ls : List Link) → ((m == n) ≡ true → tasks_in n ls ≡ []) → ((m == n) ≡ false → tasks_in n ls ≡ tasks_in n t.links)
@@ -228,20 +212,19 @@ lost_stuck n m t ls mine other was = go (m == n) refl where
   go true is = ap is_stuck (mine is)
   go false is = ap is_stuck (other is) ∙ was
 
-event_stuck : (n : ℕ) (t : Target) (e : Event) (was : Bool) → OneIsBusy n t.links → (was ≡ false → is_stuck (tasks_in n t.links) ≡ true) → hit_by n t e was ≡ false
-    → is_stuck (tasks_in n (happened t e).target.links) ≡ true
-event_stuck n t (Joined m) was i before h = ap is_stuck (new_tasks n m t.links) ∙ before h
-event_stuck n t (Left m) was i before h =
+event_stuck : (n : ℕ) (t : Target) (e : Event) → OneIsBusy n t.links → is_stuck (tasks_in n t.links) ≡ true → is_stuck (tasks_in n (happened t e).target.links) ≡ true
+event_stuck n t (Joined m) i was = ap is_stuck (new_tasks n m t.links) ∙ was
+event_stuck n t (Left m) i was =
     lost_stuck n m t (without m t.links)
     (λ is. subst (λ (k : ℕ). tasks_in n (without k t.links) ≡ []) (sym (eqb-true m n is)) (idle_tasks n (without n t.links) i))
-    (λ is. ap (λ (o : Option Link). tasks_at (standing_of o)) (others_found n m t.links is)) (before h)
-event_stuck n t (Told listing) was i before h = before h
-event_stuck n t (Whole m p) was i before h = link_stuck n m t p (link_of m t.links) was refl before h
-event_stuck n t (Malformed m) was i before h =
+    (λ is. ap (λ (o : Option Link). tasks_at (standing_of o)) (others_found n m t.links is)) was
+event_stuck n t (Told listing) i was = was
+event_stuck n t (Whole m p) i was = link_stuck n m t p (link_of m t.links) refl was
+event_stuck n t (Malformed m) i was =
     lost_stuck n m t (aside m t).links
     (λ is. subst (λ (k : ℕ). tasks_in n (aside k t).links ≡ []) (sym (eqb-true m n is)) (aside_tasks n t))
-    (λ is. ap tasks_at (aside_standing n m t is)) (before h)
+    (λ is. ap tasks_at (aside_standing n m t is)) was
 
 pub ready_are_executed : ReadyAreExecuted
-ready_are_executed n c [] h = refl
-ready_are_executed n c (e ∷ es) h = event_stuck n (state_after c es) e (was_hit n c es) (all_busy n c es) (λ was. ready_are_executed n c es was) h
+ready_are_executed n c [] = refl
+ready_are_executed n c (e ∷ es) = event_stuck n (state_after c es) e (all_busy n c es) (ready_are_executed n c es)

@@ -6,8 +6,8 @@ use Rattle.oi_pdu.specs.declared.codec.Pdu.{Pdu}
 use Rattle.oi_target.proofs.Bared.{aside_step, is_aside}
 use Rattle.oi_target.proofs.Numbered.{others_found, true_not}
 use Rattle.oi_target.specs.Events.{Event, Joined, Left, Told, Whole, Malformed, happened, heard_of, shut, state_after}
-use Rattle.oi_target.specs.Steps.{Step, logged_in_by, serving_by, stepped, with_words}
-use Rattle.oi_target.specs.Targets.{Target, aside, ended_standing, link_of, nexus_of, new_link, reset_link, reset_links, reset_standing, without}
+use Rattle.oi_target.specs.Steps.{Step, logged_in_by, received_by, serving_by, stepped, with_words}
+use Rattle.oi_target.specs.Targets.{Target, aside, ended_standing, learned, link_of, nexus_of, new_link, without}
 use Rattle.oi_target.specs.declared.config.TargetConfig.{TargetConfig}
 use Rattle.oi_target.specs.declared.link.Link.{Link}
 use Rattle.oi_target.specs.declared.link.Serving.{Serving}
@@ -15,7 +15,7 @@ use Rattle.oi_target.specs.declared.link.Standing.{Standing}
 use Rattle.oi_target.specs.declared.link.Standing.TheVariants as standing
 use Rattle.oi_target_laws.proofs.Accounts.{all_busy, aside_closed, aside_standing, other_standing, own_standing}
 use Rattle.oi_target_laws.proofs.Idle.{OneIsBusy, idle_serves, is_serving}
-use Rattle.oi_target_laws.proofs.Numbering.{reset_in}
+use Rattle.oi_target_laws.proofs.Learning.{resets_keep}
 use Rattle.oi_target_laws.proofs.Placing.{count_join, received_placed}
 use Rattle.oi_target_laws.proofs.Steps.{ended_standings}
 use Rattle.oi_target_laws.specs.Arrivals.{EachHasItsTurn, came_since, event_pdus, held_pdus, pdu_of, pdus_of, session_pdus}
@@ -26,10 +26,12 @@ use Rattle.oi_target_login.specs.Logins.{turned}
 use Rattle.oi_target_login.specs.declared.answer.Answer.{Answer}
 use Rattle.oi_target_login.specs.declared.answer.Verdict.{Verdict}
 use Rattle.oi_target_login.specs.declared.answer.Verdict.TheVariants as verdict
-use Rattle.oi_target_session.specs.Arrivals.{Received, place_of, received}
+use Rattle.oi_target_session.specs.Arrivals.{Received, place_of}
+use Rattle.oi_target_session.specs.Owing.{paid}
 use Rattle.oi_target_session.specs.declared.fed.Fed.{Fed}
 use Rattle.oi_target_session.specs.declared.fed.Fed.TheVariants.{Going, Closed}
 use Rattle.oi_target_session.specs.declared.reset.Reset.{Reset}
+use Rattle.oi_units.specs.declared.unit.LogicalUnit.{LogicalUnit}
 
 -- the PDUs of a session that is served had their turn, or are held
 abbrev IsPlaced : List Pdu → List Turned → Standing → Type 0
@@ -79,25 +81,18 @@ own_placed t (standing.LoggingIn login) p ps turns h =
     login_placed (with_words t (turned t.rules t.handle login p t.words).words) (turned t.rules t.handle login p t.words).answer
     (turned t.rules t.handle login p t.words).answer.verdict ps turns p
 own_placed t (standing.Serving v) p ps turns h =
-    going_placed ps turns (step_turns t (standing.Serving v) p) v p (received v.session t.units t.listing v.held p) (received v.session t.units t.listing v.held p).fed h
-    (received_placed (place_of v.session.discovers v.session.numbers.exp.0 p.head) v.session t.units t.listing v.held p)
+    going_placed ps turns (step_turns t (standing.Serving v) p) v p (received_by v t p) (received_by v t p).fed h
+    (received_placed (place_of v.session.discovers v.session.numbers.exp.0 p.head) (paid v.session v.owed) t.units t.listing v.held p)
 own_placed t standing.Ended p ps turns h = tt
 own_placed t standing.Closed p ps turns h = tt
 
 -- those of others
 
-reset_placed : (ps : List Pdu) (turns : List Turned) (r : Reset) (s : Standing) → IsPlaced ps turns s → IsPlaced ps turns (reset_standing r s)
-reset_placed ps turns r (standing.LoggingIn p) h = tt
-reset_placed ps turns r (standing.Serving v) h = h
-reset_placed ps turns r standing.Ended h = tt
-reset_placed ps turns r standing.Closed h = tt
-
-resets_placed : (ps : List Pdu) (turns : List Turned) (n : ℕ) (resets : List Reset) (ls : List Link) → IsPlaced ps turns (standing_in n ls)
-    → IsPlaced ps turns (standing_in n (reset_links resets ls))
-resets_placed ps turns n [] ls h = h
-resets_placed ps turns n (r ∷ rs) ls h =
-    resets_placed ps turns n rs (map (reset_link r) ls)
-    (subst (λ (z : Standing). IsPlaced ps turns z) (sym (reset_in n r ls)) (reset_placed ps turns r (standing_in n ls) h))
+learned_placed : (ps : List Pdu) (turns : List Turned) (r : Reset) (u : List LogicalUnit) (s : Standing) → IsPlaced ps turns s → IsPlaced ps turns (learned r u s).standing
+learned_placed ps turns r u (standing.LoggingIn p) h = tt
+learned_placed ps turns r u (standing.Serving v) h = h
+learned_placed ps turns r u standing.Ended h = tt
+learned_placed ps turns r u standing.Closed h = tt
 
 ended_placed : (ps : List Pdu) (turns : List Turned) (nexus : List ℕ) (s : Standing) → IsPlaced ps turns s → IsPlaced ps turns (ended_standing nexus s)
 ended_placed ps turns nexus (standing.LoggingIn p) h = tt
@@ -120,7 +115,8 @@ other_placed : (ps : List Pdu) (turns : List Turned) (n : ℕ) (t : Target) (s :
 other_placed ps turns n t (standing.LoggingIn login) p h =
     opening_placed ps turns n (with_words t (turned t.rules t.handle login p t.words).words) (turned t.rules t.handle login p t.words).answer
     (turned t.rules t.handle login p t.words).answer.verdict h
-other_placed ps turns n t (standing.Serving v) p h = resets_placed ps turns n (received v.session t.units t.listing v.held p).session.resets t.links h
+other_placed ps turns n t (standing.Serving v) p h =
+    resets_keep (λ s. IsPlaced ps turns s) (learned_placed ps turns) n (received_by v t p).session.resets (received_by v t p).units t.links h
 other_placed ps turns n t standing.Ended p h = h
 other_placed ps turns n t standing.Closed p h = h
 

@@ -1,22 +1,25 @@
 -- No command is executed before its data are complete.
-use Rattle.std.proofs.Common.{ℕ, Bool, true, false, not, ◌≡◌, Option, Some, None, List, [], ◌∷◌, ◌++◌, map, refl, ap, if◌then◌else◌}
+use Rattle.std.proofs.Common.{ℕ, Bool, true, false, not, ◌≡◌, Option, Some, None, List, [], ◌∷◌, ◌++◌, flat_map, map, refl, ap, if◌then◌else◌}
 use Rattle.oi_pdu.specs.declared.codec.Pdu.{Pdu}
 use Rattle.oi_sendtargets.specs.declared.found.Found.{Found}
 use Rattle.oi_target.specs.Events.{Event, Joined, Left, Told, Whole, Malformed, state_after}
-use Rattle.oi_target.specs.Runs.{event_requests, link_requests, requests_of, step_requests}
-use Rattle.oi_target.specs.Targets.{Target, aside, link_of}
+use Rattle.oi_target.specs.Runs.{event_requests, learned_requests, link_learned, link_requests, others_requests, own_requests, requests_of, reset_requests, step_requests}
+use Rattle.oi_target.specs.Steps.{received_by}
+use Rattle.oi_target.specs.Targets.{Reached, Target, aside, link_of, reset_each}
 use Rattle.oi_target.specs.declared.link.Link.{Link}
 use Rattle.oi_target.specs.declared.link.Standing.{Standing}
 use Rattle.oi_target.specs.declared.link.Standing.TheVariants as standing
 use Rattle.oi_target_laws.specs.Histories.{AreComplete, ExecutedAreComplete}
 use Rattle.oi_target_session.specs.Arrivals.{Held, advanced, place_of}
 use Rattle.oi_target_session.specs.Executions.{if_going, in_turn_requests, requests_at, served_requests}
+use Rattle.oi_target_session.specs.Owing.{paid}
 use Rattle.oi_target_session.specs.Runs.{ready, request_of}
-use Rattle.oi_target_session.specs.Sessions.{Handled, Session, handled, served}
+use Rattle.oi_target_session.specs.Sessions.{Handled, Session, handled, served, spared}
 use Rattle.oi_target_session.specs.declared.fed.Fed.{Fed}
 use Rattle.oi_target_session.specs.declared.fed.Fed.TheVariants.{Going, Closed}
 use Rattle.oi_target_session.specs.declared.place.Place.{Place}
 use Rattle.oi_target_session.specs.declared.place.Place.TheVariants.{Now, InTurn, Early, Outside}
+use Rattle.oi_target_session.specs.declared.reset.Reset.{Reset}
 use Rattle.oi_target_tasks.specs.Tasks.{is_waiting}
 use Rattle.oi_target_tasks.specs.declared.task.Task.{Task}
 use Rattle.oi_units.specs.Runs.{Request}
@@ -61,11 +64,37 @@ placed_complete InTurn s units listing held p = in_turn_complete s units listing
 placed_complete (Early at) s units listing held p = tt
 placed_complete Outside s units listing held p = tt
 
+own_complete : (t : Target) (s : Standing) (p : Pdu) → AreComplete (own_requests t s p)
+own_complete t (standing.LoggingIn login) p = tt
+own_complete t (standing.Serving v) p = placed_complete (place_of v.session.discovers v.session.numbers.exp.0 p.head) (paid v.session v.owed) t.units t.listing v.held p
+own_complete t standing.Ended p = tt
+own_complete t standing.Closed p = tt
+
+-- behind resets
+learned_complete : (r : Reset) (s : Standing) → AreComplete (learned_requests r s)
+learned_complete r (standing.LoggingIn login) = tt
+learned_complete r (standing.Serving v) = ready_complete v.session.nexus (spared r v.session.tasks)
+learned_complete r standing.Ended = tt
+learned_complete r standing.Closed = tt
+
+reset_complete : (r : Reset) (ls : List Link) → AreComplete (flat_map (link_learned r) ls)
+reset_complete r [] = tt
+reset_complete r (l ∷ ls) = both_complete (link_learned r l) (flat_map (link_learned r) ls) (learned_complete r l.standing) (reset_complete r ls)
+
+resets_complete : (resets : List Reset) (units : List LogicalUnit) (ls : List Link) → AreComplete (reset_requests resets units ls)
+resets_complete [] units ls = tt
+resets_complete (r ∷ rs) units ls =
+    let all : Reached = reset_each r units ls in
+    both_complete (flat_map (link_learned r) ls) (reset_requests rs all.units all.links) (reset_complete r ls) (resets_complete rs all.units all.links)
+
+others_complete : (t : Target) (s : Standing) (p : Pdu) → AreComplete (others_requests t s p)
+others_complete t (standing.LoggingIn login) p = tt
+others_complete t (standing.Serving v) p = resets_complete (received_by v t p).session.resets (received_by v t p).units t.links
+others_complete t standing.Ended p = tt
+others_complete t standing.Closed p = tt
+
 step_complete : (t : Target) (s : Standing) (p : Pdu) → AreComplete (step_requests t s p)
-step_complete t (standing.LoggingIn login) p = tt
-step_complete t (standing.Serving v) p = placed_complete (place_of v.session.discovers v.session.numbers.exp.0 p.head) v.session t.units t.listing v.held p
-step_complete t standing.Ended p = tt
-step_complete t standing.Closed p = tt
+step_complete t s p = both_complete (own_requests t s p) (others_requests t s p) (own_complete t s p) (others_complete t s p)
 
 link_complete : (t : Target) (m : ℕ) (o : Option Link) (p : Pdu) → AreComplete (link_requests t m o p)
 link_complete t m None p = tt

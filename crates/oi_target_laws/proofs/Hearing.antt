@@ -7,8 +7,8 @@ use Rattle.oi_target.proofs.Numbered.{others_found}
 use Rattle.oi_target.proofs.Shown.{only_proved_log_in}
 use Rattle.oi_target.specs.Events.{Event, Joined, Left, Told, Whole, Malformed, happened, heard_of, shut, state_after}
 use Rattle.oi_target.specs.Shown.{HasProved, Heard, answer_to, login_after}
-use Rattle.oi_target.specs.Steps.{Step, logged_in_by, serving_by, stepped, with_words}
-use Rattle.oi_target.specs.Targets.{Target, aside, ended_standing, link_of, nexus_of, new_link, reset_link, reset_links, reset_standing, rules_of, without}
+use Rattle.oi_target.specs.Steps.{Step, logged_in_by, received_by, serving_by, stepped, with_words}
+use Rattle.oi_target.specs.Targets.{Target, aside, ended_standing, learned, link_of, nexus_of, new_link, rules_of, without}
 use Rattle.oi_target.specs.declared.config.TargetConfig.{TargetConfig}
 use Rattle.oi_target.specs.declared.link.Link.{Link}
 use Rattle.oi_target.specs.declared.link.Serving.{Serving}
@@ -17,7 +17,7 @@ use Rattle.oi_target.specs.declared.link.Standing.TheVariants as standing
 use Rattle.oi_target_laws.proofs.Accounts.{all_busy, aside_closed, aside_standing, other_standing, own_standing}
 use Rattle.oi_target_laws.proofs.Idle.{IsNew, OneIsBusy, idle_standing}
 use Rattle.oi_target_laws.proofs.Keeps.{received_nexus}
-use Rattle.oi_target_laws.proofs.Numbering.{reset_in}
+use Rattle.oi_target_laws.proofs.Learning.{resets_keep}
 use Rattle.oi_target_laws.proofs.Steps.{ended_standings}
 use Rattle.oi_target_laws.specs.Histories.{standing_in, standing_of}
 use Rattle.oi_target_laws.specs.Logins.{LoginsAreHeard, ServedHaveProved, begun, event_heard, heard_as, heard_on, opened_at, opened_on}
@@ -29,11 +29,13 @@ use Rattle.oi_target_login.specs.declared.answer.Verdict.{Verdict}
 use Rattle.oi_target_login.specs.declared.answer.Verdict.TheVariants as verdict
 use Rattle.oi_target_login.specs.declared.config.LoginRules.{LoginRules}
 use Rattle.oi_target_login.specs.declared.progress.Progress.{Progress}
-use Rattle.oi_target_session.specs.Arrivals.{Received, place_of, received}
+use Rattle.oi_target_session.specs.Arrivals.{Received, place_of}
+use Rattle.oi_target_session.specs.Owing.{paid}
 use Rattle.oi_target_session.specs.Sessions.{Session}
 use Rattle.oi_target_session.specs.declared.fed.Fed.{Fed}
 use Rattle.oi_target_session.specs.declared.fed.Fed.TheVariants.{Going, Closed}
 use Rattle.oi_target_session.specs.declared.reset.Reset.{Reset}
+use Rattle.oi_units.specs.declared.unit.LogicalUnit.{LogicalUnit}
 
 -- the login of these PDUs opened the session
 record IsOpened (r : LoginRules) (opened : List Heard) (s : Session) : Type 0 where
@@ -103,17 +105,16 @@ own_heard t (standing.LoggingIn login) p r hs opened rules h =
     (turned t.rules t.handle login p t.words).answer.verdict
     (ap (λ (z : LoginRules). (turned z t.handle login p t.words).answer) rules ∙ ap (λ (z : Progress). (turned r t.handle z p t.words).answer) h) refl
 own_heard t (standing.Serving v) p r hs opened rules h =
-    going_heard r hs (heard_as t p ∷ hs) opened v (received v.session t.units t.listing v.held p) (received v.session t.units t.listing v.held p).fed
-    (received_nexus (place_of v.session.discovers v.session.numbers.exp.0 p.head) v.session t.units t.listing v.held p).nexus
-    (received_nexus (place_of v.session.discovers v.session.numbers.exp.0 p.head) v.session t.units t.listing v.held p).discovers h
+    let same = received_nexus (place_of v.session.discovers v.session.numbers.exp.0 p.head) (paid v.session v.owed) t.units t.listing v.held p in
+    going_heard r hs (heard_as t p ∷ hs) opened v (received_by v t p) (received_by v t p).fed same.nexus same.discovers h
 own_heard t standing.Ended p r hs opened rules h = tt
 own_heard t standing.Closed p r hs opened rules h = tt
 
 -- those of others
 
-reset_heard : (r : LoginRules) (hs opened : List Heard) (reset : Reset) (s : Standing) → HeardAt r hs opened s → HeardAt r hs opened (reset_standing reset s)
-reset_heard r hs opened reset (standing.LoggingIn p) h = h
-reset_heard r hs opened reset (standing.Serving v) h = record {
+learned_heard : (r : LoginRules) (hs opened : List Heard) (reset : Reset) (u : List LogicalUnit) (s : Standing) → HeardAt r hs opened s → HeardAt r hs opened (learned reset u s).standing
+learned_heard r hs opened reset u (standing.LoggingIn p) h = h
+learned_heard r hs opened reset u (standing.Serving v) h = record {
   last = h.last;
   before = h.before;
   login = h.login;
@@ -122,15 +123,8 @@ reset_heard r hs opened reset (standing.Serving v) h = record {
   nexus = h.nexus;
   discovers = h.discovers;
 }
-reset_heard r hs opened reset standing.Ended h = tt
-reset_heard r hs opened reset standing.Closed h = tt
-
-resets_heard : (r : LoginRules) (hs opened : List Heard) (n : ℕ) (resets : List Reset) (ls : List Link) → HeardAt r hs opened (standing_in n ls)
-    → HeardAt r hs opened (standing_in n (reset_links resets ls))
-resets_heard r hs opened n [] ls h = h
-resets_heard r hs opened n (reset ∷ resets) ls h =
-    resets_heard r hs opened n resets (map (reset_link reset) ls)
-    (subst (λ (z : Standing). HeardAt r hs opened z) (sym (reset_in n reset ls)) (reset_heard r hs opened reset (standing_in n ls) h))
+learned_heard r hs opened reset u standing.Ended h = tt
+learned_heard r hs opened reset u standing.Closed h = tt
 
 ended_heard : (r : LoginRules) (hs opened : List Heard) (nexus : List ℕ) (s : Standing) → HeardAt r hs opened s → HeardAt r hs opened (ended_standing nexus s)
 ended_heard r hs opened nexus (standing.LoggingIn p) h = h
@@ -153,7 +147,8 @@ other_heard : (r : LoginRules) (hs opened : List Heard) (n : ℕ) (t : Target) (
 other_heard r hs opened n t (standing.LoggingIn login) p h =
     opening_heard r hs opened n (with_words t (turned t.rules t.handle login p t.words).words) (turned t.rules t.handle login p t.words).answer
     (turned t.rules t.handle login p t.words).answer.verdict h
-other_heard r hs opened n t (standing.Serving v) p h = resets_heard r hs opened n (received v.session t.units t.listing v.held p).session.resets t.links h
+other_heard r hs opened n t (standing.Serving v) p h =
+    resets_keep (λ s. HeardAt r hs opened s) (learned_heard r hs opened) n (received_by v t p).session.resets (received_by v t p).units t.links h
 other_heard r hs opened n t standing.Ended p h = h
 other_heard r hs opened n t standing.Closed p h = h
 

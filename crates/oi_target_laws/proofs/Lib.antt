@@ -1,5 +1,6 @@
 pub mod Accounts
 pub mod Arriving
+pub mod Asking
 pub mod Complete
 pub mod Conflicts
 pub mod Counting
@@ -7,6 +8,7 @@ pub mod Handles
 pub mod Hearing
 pub mod Idle
 pub mod Keeps
+pub mod Learning
 pub mod Moves
 pub mod Numbering
 pub mod Placing

@@ -5,10 +5,9 @@ use Rattle.std.proofs.lemmas.List.Concat.{flat_map-append}
 use Rattle.oi_pdu.specs.declared.codec.Pdu.{Pdu}
 use Rattle.oi_target.proofs.Bared.{aside_step, is_aside}
 use Rattle.oi_target.proofs.Numbered.{others_found, true_not}
-use Rattle.oi_target.proofs.Placed.{link_map}
 use Rattle.oi_target.specs.Events.{Event, Joined, Left, Told, Whole, Malformed, happened, heard_of, shut, state_after}
-use Rattle.oi_target.specs.Steps.{Step, logged_in_by, serving_by, stepped, with_words}
-use Rattle.oi_target.specs.Targets.{Target, aside, ended_standing, link_of, nexus_of, new_link, reset_link, reset_links, reset_standing, without}
+use Rattle.oi_target.specs.Steps.{Step, logged_in_by, received_by, serving_by, stepped, with_words}
+use Rattle.oi_target.specs.Targets.{Target, aside, ended_standing, learned, link_of, nexus_of, new_link, without}
 use Rattle.oi_target.specs.declared.config.TargetConfig.{TargetConfig}
 use Rattle.oi_target.specs.declared.link.Link.{Link}
 use Rattle.oi_target.specs.declared.link.Serving.{Serving}
@@ -17,7 +16,8 @@ use Rattle.oi_target.specs.declared.link.Standing.TheVariants as standing
 use Rattle.oi_target_laws.proofs.Accounts.{all_busy, aside_closed, aside_standing, other_standing, own_standing}
 use Rattle.oi_target_laws.proofs.Counting.{AreAhead, Awaits, Counts, behind_join, received_counts, succeed_join}
 use Rattle.oi_target_laws.proofs.Idle.{OneIsBusy, idle_serves, is_serving}
-use Rattle.oi_target_laws.proofs.Steps.{ended_standings, over_standing}
+use Rattle.oi_target_laws.proofs.Learning.{resets_keep}
+use Rattle.oi_target_laws.proofs.Steps.{ended_standings}
 use Rattle.oi_target_laws.specs.Histories.{event_turns, link_turns, standing_in, standing_of, step_turns, turns_on}
 use Rattle.oi_target_laws.specs.Numbers.{AreLast, NextIsExpected, NumbersSucceed, Succeed, TurnsAreLast, behind_all, event_opened, first_by, first_on, link_opened, numbers_in, numbers_on, opened_by, session_turns, since, step_opened}
 use Rattle.oi_target_laws.specs.Turned.{Turned}
@@ -25,10 +25,12 @@ use Rattle.oi_target_login.specs.Logins.{turned}
 use Rattle.oi_target_login.specs.declared.answer.Answer.{Answer}
 use Rattle.oi_target_login.specs.declared.answer.Verdict.{Verdict}
 use Rattle.oi_target_login.specs.declared.answer.Verdict.TheVariants as verdict
-use Rattle.oi_target_session.specs.Arrivals.{Received, received}
+use Rattle.oi_target_session.specs.Arrivals.{Received}
+use Rattle.oi_target_session.specs.Owing.{paid}
 use Rattle.oi_target_session.specs.declared.fed.Fed.{Fed}
 use Rattle.oi_target_session.specs.declared.fed.Fed.TheVariants.{Going, Closed}
 use Rattle.oi_target_session.specs.declared.reset.Reset.{Reset}
+use Rattle.oi_units.specs.declared.unit.LogicalUnit.{LogicalUnit}
 
 -- a connection that is served expects this number
 abbrev pub AwaitsAt : ℕ → Standing → Type 0
@@ -89,11 +91,11 @@ served_numbered t v p first turns was = record {
   new = step_turns t (standing.Serving v) p
 
   r : Received
-  r = received v.session t.units t.listing v.held p
+  r = received_by v t p
 
   counts : Counts v.session.discovers exp new r.fed r.session r.held
   counts = subst (λ (z : ℕ). Counts v.session.discovers z new r.fed r.session r.held) was.awaits.expects
-      (received_counts v.session t.units t.listing v.held p (subst (λ (z : ℕ). AreAhead v.session.discovers z 1 v.held) (sym was.awaits.expects) was.awaits.ahead))
+      (received_counts (paid v.session v.owed) t.units t.listing v.held p (subst (λ (z : ℕ). AreAhead v.session.discovers z 1 v.held) (sym was.awaits.expects) was.awaits.ahead))
 
 own_numbered : (t : Target) (s : Standing) (p : Pdu) (first : ℕ) (turns : List Turned) → Numbered first turns s
     → Numbered (first_by (step_opened t s p) first) (since (step_opened t s p) turns ++ step_turns t s p) (stepped t s p).standing
@@ -106,19 +108,11 @@ own_numbered t standing.Closed p first turns was = as_before first turns standin
 
 -- those of others
 
-reset_awaits : (exp : ℕ) (r : Reset) (s : Standing) → AwaitsAt exp s → AwaitsAt exp (reset_standing r s)
-reset_awaits exp r (standing.LoggingIn p) a = tt
-reset_awaits exp r (standing.Serving v) a = record { discovers_is = refl; expects = a.expects; ahead = a.ahead }
-reset_awaits exp r standing.Ended a = tt
-reset_awaits exp r standing.Closed a = tt
-
-pub reset_in : (n : ℕ) (r : Reset) (ls : List Link) → standing_in n (map (reset_link r) ls) ≡ reset_standing r (standing_in n ls)
-reset_in n r ls = ap standing_of (link_map (reset_link r) (λ l. refl) n ls) ∙ over_standing (reset_link r) (reset_standing r) (λ l. refl) refl (link_of n ls)
-
-resets_await : (exp n : ℕ) (resets : List Reset) (ls : List Link) → AwaitsAt exp (standing_in n ls) → AwaitsAt exp (standing_in n (reset_links resets ls))
-resets_await exp n [] ls a = a
-resets_await exp n (r ∷ rs) ls a =
-    resets_await exp n rs (map (reset_link r) ls) (subst (λ (z : Standing). AwaitsAt exp z) (sym (reset_in n r ls)) (reset_awaits exp r (standing_in n ls) a))
+learned_awaits : (exp : ℕ) (r : Reset) (u : List LogicalUnit) (s : Standing) → AwaitsAt exp s → AwaitsAt exp (learned r u s).standing
+learned_awaits exp r u (standing.LoggingIn p) a = tt
+learned_awaits exp r u (standing.Serving v) a = record { discovers_is = refl; expects = a.expects; ahead = a.ahead }
+learned_awaits exp r u standing.Ended a = tt
+learned_awaits exp r u standing.Closed a = tt
 
 ended_awaits : (exp : ℕ) (nexus : List ℕ) (s : Standing) → AwaitsAt exp s → AwaitsAt exp (ended_standing nexus s)
 ended_awaits exp nexus (standing.LoggingIn p) a = tt
@@ -139,7 +133,8 @@ other_awaits : (exp n : ℕ) (t : Target) (s : Standing) (p : Pdu) → AwaitsAt 
 other_awaits exp n t (standing.LoggingIn login) p h =
     login_awaits exp n (with_words t (turned t.rules t.handle login p t.words).words) (turned t.rules t.handle login p t.words).answer
     (turned t.rules t.handle login p t.words).answer.verdict h
-other_awaits exp n t (standing.Serving v) p h = resets_await exp n (received v.session t.units t.listing v.held p).session.resets t.links h
+other_awaits exp n t (standing.Serving v) p h =
+    resets_keep (λ s. AwaitsAt exp s) (learned_awaits exp) n (received_by v t p).session.resets (received_by v t p).units t.links h
 other_awaits exp n t standing.Ended p h = h
 other_awaits exp n t standing.Closed p h = h
 

@@ -43,7 +43,7 @@ without_nil ws cs es ds ks m =
     subst (λ (z : List UnitCommand). Moves ws z es ds ks) (append-nil cs) (subst (λ (z : List UnitCommand). Moves ws (cs ++ []) es z ks) (append-nil ds) m)
 
 -- the first of those that wait are executed then
-then_executes : (ws cs ds ms es ks : List UnitCommand) → Moves ws cs [] ds ms → ms ≡ es ++ ks → Moves ws cs es ds ks
+pub then_executes : (ws cs ds ms es ks : List UnitCommand) → Moves ws cs [] ds ms → ms ≡ es ++ ks → Moves ws cs es ds ks
 then_executes ws cs ds ms es ks m is =
     without_nil ws cs es ds ks
     (moves_on ws cs [] [] es ds [] (es ++ ks) ks (subst (λ (z : List UnitCommand). Moves ws cs [] ds z) is m) (executes es ks))
@@ -192,9 +192,8 @@ received_moves (Early at) s units listing held p = go (is_held (slice_get held a
   go false = stays (commands_of s.tasks)
 received_moves Outside s units listing held p = ends (commands_of s.tasks)
 
--- behind its turn the first that waits lacks data
-pub received_stuck : (place : Place) (s : Session) (units : List LogicalUnit) (listing : List Found) (held : Held) (p : Pdu)
-    → (turns_at place s units listing held p ≡ [] → is_stuck s.tasks ≡ true)
+-- behind it the first that waits lacks data
+pub received_stuck : (place : Place) (s : Session) (units : List LogicalUnit) (listing : List Found) (held : Held) (p : Pdu) → is_stuck s.tasks ≡ true
     → is_stuck (tasks_if (received_at place s units listing held p).fed (received_at place s units listing held p).session.tasks) ≡ true
 received_stuck Now s units listing held p was = served_stuck s units listing p
 received_stuck InTurn s units listing held p was = in_turn_stuck s units listing p held
@@ -204,5 +203,5 @@ received_stuck (Early at) s units listing held p was = go (is_held (slice_get he
       (if b then unmoved s units held Closed else unmoved s units (slice_set (padded at held) at (Some p)) Going).session.tasks)
       ≡ true
   go true = refl
-  go false = was refl
+  go false = was
 received_stuck Outside s units listing held p was = refl

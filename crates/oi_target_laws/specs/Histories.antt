@@ -4,7 +4,8 @@ use Rattle.std.specs.Prelude.{◌≡◌, ◌+◌, ℕ, Bool, true, false, Option
 use Rattle.std.specs.List.{flat_map}
 use Rattle.oi_pdu.specs.declared.codec.Pdu.{Pdu}
 use Rattle.oi_target.specs.Events.{Event, Left, Whole, Malformed, state_after}
-use Rattle.oi_target.specs.Runs.{event_requests, requests_of}
+use Rattle.oi_target.specs.Runs.{event_own, requests_of}
+use Rattle.oi_target.specs.Steps.{received_by}
 use Rattle.oi_target.specs.Targets.{Target, aside, link_of, nexus_of}
 use Rattle.oi_target.specs.declared.config.TargetConfig.{TargetConfig}
 use Rattle.oi_target.specs.declared.link.Link.{Link}
@@ -15,7 +16,9 @@ use Rattle.oi_target_laws.specs.Within.{Within}
 use Rattle.oi_target_login.specs.Logins.{turned}
 use Rattle.oi_target_login.specs.declared.answer.Verdict.{Verdict}
 use Rattle.oi_target_login.specs.declared.answer.Verdict.TheVariants as verdict
-use Rattle.oi_target_session.specs.Arrivals.{place_of, received}
+use Rattle.oi_target_session.specs.Arrivals.{place_of}
+use Rattle.oi_target_session.specs.Owing.{paid, unready}
+use Rattle.oi_target_session.specs.Runs.{ready}
 use Rattle.oi_target_session.specs.Sessions.{spared}
 use Rattle.oi_target_session.specs.declared.reset.Reset.{Reset}
 use Rattle.oi_target_tasks.specs.Tasks.{is_stuck}
@@ -44,7 +47,7 @@ tasks_in n links = tasks_at (standing_in n links)
 -- the PDUs that have their turn as one comes on their connection
 abbrev pub step_turns : Target → Standing → Pdu → List Turned
 step_turns t (standing.Serving v) pdu =
-    turns_at (place_of v.session.discovers v.session.numbers.exp.0 pdu.head) v.session t.units t.listing v.held pdu
+    turns_at (place_of v.session.discovers v.session.numbers.exp.0 pdu.head) (paid v.session v.owed) t.units t.listing v.held pdu
 step_turns t s pdu = []
 
 -- of a connection that is there
@@ -66,9 +69,26 @@ turns_on n c (e ∷ es) = turns_on n c es ++ event_turns n (state_after c es) e
 abbrev pub came_on : ℕ → TargetConfig → List Event → List UnitCommand
 came_on n c es = flat_map came_in (turns_on n c es)
 
--- the commands that the units execute as a PDU of the connection comes
+-- the tasks that resets let be executed at once, one reset after another: they stood behind those that it takes
+abbrev pub woken_by_all : List Reset → List Task → List Task
+woken_by_all [] ts = []
+woken_by_all (reset ∷ resets) ts = ready (spared reset ts) ++ woken_by_all resets (unready (spared reset ts))
+
+-- what a PDU of a connection lets be executed of another one
+abbrev pub step_woken : Target → Standing → Pdu → Standing → List Task
+step_woken t (standing.Serving v) pdu other = woken_by_all (received_by v t pdu).session.resets (tasks_at other)
+step_woken t s pdu other = []
+
+-- of a connection that is there
+abbrev pub link_woken : Target → ℕ → Option Link → Pdu → Standing → List Task
+link_woken t m None p other = []
+link_woken t m (Some l) p other = step_woken (aside m t) l.standing p other
+
+-- the commands of the connection that the units execute as a PDU comes, its own or that of another one
 abbrev pub event_executed : ℕ → Target → Event → List UnitCommand
-event_executed n t (Whole m p) = if m == n then map command_of_request (event_requests t (Whole m p)) else []
+event_executed n t (Whole m p) =
+    if m == n then map command_of_request (event_own t (Whole m p))
+    else commands_of (link_woken t m (link_of m t.links) p (standing_in n t.links))
 event_executed n t e = []
 
 -- all of them, in order
@@ -76,10 +96,14 @@ abbrev pub executed_on : ℕ → TargetConfig → List Event → List UnitComman
 executed_on n c [] = []
 executed_on n c (e ∷ es) = executed_on n c es ++ event_executed n (state_after c es) e
 
+-- they are among the commands that the units were asked, in the same order
+abbrev pub ExecutedAreAsked : Type 0
+ExecutedAreAsked = (n : ℕ) (c : TargetConfig) (es : List Event) → Within (executed_on n c es) (map command_of_request (requests_of c es))
+
 -- the commands that a PDU of the connection ends before they are executed
 abbrev pub step_ended : Target → Standing → Pdu → List UnitCommand
 step_ended t (standing.Serving v) pdu =
-    ended_at (place_of v.session.discovers v.session.numbers.exp.0 pdu.head) v.session t.units t.listing v.held pdu
+    ended_at (place_of v.session.discovers v.session.numbers.exp.0 pdu.head) (paid v.session v.owed) t.units t.listing v.held pdu
 step_ended t s pdu = []
 
 -- of a connection that is there
@@ -90,7 +114,7 @@ link_ended t m (Some l) p = step_ended (aside m t) l.standing p
 -- the tasks that resets take, one after another
 abbrev pub taken_by_all : List Reset → List Task → List Task
 taken_by_all [] ts = []
-taken_by_all (reset ∷ resets) ts = taken_by reset ts ++ taken_by_all resets (spared reset ts)
+taken_by_all (reset ∷ resets) ts = taken_by reset ts ++ taken_by_all resets (unready (spared reset ts))
 
 -- those of a session of this initiator port
 abbrev pub tasks_under : List ℕ → Standing → List Task
@@ -105,7 +129,7 @@ taken_by_login v other = []
 -- what a PDU of a connection takes from another one: by resets, or by a login
 abbrev pub step_taken : Target → Standing → Pdu → Standing → List Task
 step_taken t (standing.LoggingIn p) pdu other = taken_by_login (turned t.rules t.handle p pdu t.words).answer.verdict other
-step_taken t (standing.Serving v) pdu other = taken_by_all (received v.session t.units t.listing v.held pdu).session.resets (tasks_at other)
+step_taken t (standing.Serving v) pdu other = taken_by_all (received_by v t pdu).session.resets (tasks_at other)
 step_taken t s pdu other = []
 
 -- of a connection that is there
@@ -158,29 +182,6 @@ AreComplete (r ∷ rs) = (is_complete r ≡ true) × AreComplete rs
 abbrev pub ExecutedAreComplete : Type 0
 ExecutedAreComplete = (c : TargetConfig) (es : List Event) → AreComplete (requests_of c es)
 
--- a turn ends what was before; where none was, it is as before
-abbrev pub unless_turns : List Turned → Bool → Bool
-unless_turns [] was = was
-unless_turns (t ∷ ts) was = false
-
--- tasks were taken now, or before
-abbrev pub or_taken : List Task → Bool → Bool
-or_taken [] was = was
-or_taken (t ∷ ts) was = true
-
--- another connection took tasks since the last PDU that had its turn
-abbrev pub hit_by : ℕ → Target → Event → Bool → Bool
-hit_by n t (Whole m p) was =
-    if m == n then unless_turns (link_turns t m (link_of m t.links) p) was
-    else or_taken (link_taken t m (link_of m t.links) p (standing_in n t.links)) was
-hit_by n t e was = was
-
--- over all events
-abbrev pub was_hit : ℕ → TargetConfig → List Event → Bool
-was_hit n c [] = false
-was_hit n c (e ∷ es) = hit_by n (state_after c es) e (was_hit n c es)
-
--- a command is executed at once when those before it are and its data are complete: the first that waits lacks data. Where another
--- connection took commands from among those that wait, this is so from the next PDU on that has its turn
+-- a command is executed at once when those before it are and its data are complete: the first that waits lacks data
 abbrev pub ReadyAreExecuted : Type 0
-ReadyAreExecuted = (n : ℕ) (c : TargetConfig) (es : List Event) → was_hit n c es ≡ false → is_stuck (tasks_on n c es) ≡ true
+ReadyAreExecuted = (n : ℕ) (c : TargetConfig) (es : List Event) → is_stuck (tasks_on n c es) ≡ true
