@@ -1,5 +1,5 @@
 -- Over all events since a target was made, each PDU of a session had its turn once, or is held.
-use Rattle.std.proofs.Common.{ℕ, ◌+◌, Bool, true, false, ◌≡◌, ◌∙◌, Option, Some, None, List, [], ◌∷◌, ◌++◌, bytes_eq, count_by, map, refl, ap, sym, subst, arith, append-nil, if◌then◌else◌, ◌==◌}
+use Rattle.std.proofs.Common.{ℕ, ◌+◌, Bool, true, false, ◌≡◌, ◌∙◌, Option, Some, None, List, [], ◌∷◌, ◌++◌, bytes_eq, count_by, refl, ap, sym, subst, arith, append-nil, if◌then◌else◌, ◌==◌}
 use Rattle.std.proofs.lemmas.Bool.{eqb-true}
 use Rattle.std.proofs.lemmas.List.{map-append}
 use Rattle.oi_pdu.specs.declared.codec.Pdu.{Pdu}

@@ -1,5 +1,5 @@
 -- The commands that are executed on a connection are among those that the units were asked, in the same order.
-use Rattle.std.proofs.Common.{ℕ, Bool, true, false, ◌≡◌, ◌∙◌, inl, Option, Some, None, List, [], ◌∷◌, ◌++◌, flat_map, map, refl, ap, sym, subst, if◌then◌else◌, ◌==◌}
+use Rattle.std.proofs.Common.{ℕ, Bool, true, false, ◌≡◌, inl, Option, Some, None, List, [], ◌∷◌, ◌++◌, flat_map, map, refl, ap, sym, subst, if◌then◌else◌, ◌==◌}
 use Rattle.std.proofs.lemmas.List.{map-append}
 use Rattle.oi_pdu.specs.declared.codec.Pdu.{Pdu}
 use Rattle.oi_target.specs.Events.{Event, Joined, Left, Told, Whole, Malformed, state_after}

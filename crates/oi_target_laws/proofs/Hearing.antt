@@ -1,5 +1,5 @@
 -- Over all events since a target was made, logins are functions of the PDUs of their connections.
-use Rattle.std.proofs.Common.{ℕ, Bool, true, false, ◌≡◌, ◌∙◌, ◌⊎◌, inl, inr, Option, Some, None, List, [], ◌∷◌, ◌++◌, bytes_eq, map, refl, ap, sym, subst, if◌then◌else◌, ◌==◌}
+use Rattle.std.proofs.Common.{ℕ, Bool, true, false, ◌≡◌, ◌∙◌, ◌⊎◌, inl, inr, Option, Some, None, List, [], ◌∷◌, ◌++◌, bytes_eq, refl, ap, sym, subst, if◌then◌else◌, ◌==◌}
 use Rattle.std.proofs.lemmas.Bool.{eqb-true}
 use Rattle.oi_pdu.specs.declared.codec.Pdu.{Pdu}
 use Rattle.oi_target.proofs.Bared.{aside_step, is_aside}

@@ -1,5 +1,5 @@
 -- What a PDU of a connection makes of the tasks of its own session, and of those of others.
-use Rattle.std.proofs.Common.{ℕ, Bool, true, false, ◌≡◌, ◌∙◌, Option, Some, None, List, [], ◌∷◌, ◌++◌, bytes_eq, flat_map, map, refl, ap, sym, subst, if◌then◌else◌}
+use Rattle.std.proofs.Common.{ℕ, Bool, true, false, ◌≡◌, ◌∙◌, List, [], bytes_eq, flat_map, map, refl, ap, sym, subst, if◌then◌else◌}
 use Rattle.oi_pdu.specs.declared.codec.Pdu.{Pdu}
 use Rattle.oi_target.proofs.Placed.{link_map}
 use Rattle.oi_target.specs.Runs.{own_requests}

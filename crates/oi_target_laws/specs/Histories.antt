@@ -1,6 +1,6 @@
 -- The commands of a connection since the target was made, and what became of each of them. All is said of the connections of one number,
 -- which have followed one another where a number was given again.
-use Rattle.std.specs.Prelude.{◌≡◌, ◌+◌, ℕ, Bool, true, false, Option, Some, None, List, [], ◌∷◌, ◌++◌, bytes_eq, count_by, length, map, nat_lt, not, ◌&&◌, ◌==◌, if◌then◌else◌}
+use Rattle.std.specs.Prelude.{◌≡◌, ◌+◌, ℕ, Bool, true, Option, Some, None, List, [], ◌∷◌, ◌++◌, bytes_eq, count_by, length, map, nat_lt, not, ◌&&◌, ◌==◌, if◌then◌else◌}
 use Rattle.std.specs.List.{flat_map}
 use Rattle.oi_pdu.specs.declared.codec.Pdu.{Pdu}
 use Rattle.oi_target.specs.Events.{Event, Left, Whole, Malformed, state_after}
