@@ -25,7 +25,7 @@ use Rattle.oi_units.specs.Runs.{Request}
 use Rattle.oi_units.specs.declared.command.UnitCommand.{UnitCommand}
 use Rattle.oi_units.specs.declared.unit.LogicalUnit.{LogicalUnit}
 
-abbrev asked_by : List Request → List UnitCommand
+abbrev pub asked_by : List Request → List UnitCommand
 asked_by rs = map command_of_request rs
 
 within_front : (xs ys : List UnitCommand) → Within xs (xs ++ ys)
@@ -55,7 +55,7 @@ request_commands : (nexus : List ℕ) (ts : List Task) → asked_by (map (reques
 request_commands nexus [] = refl
 request_commands nexus (t ∷ ts) = ap (λ (z : List UnitCommand). t.command ∷ z) (request_commands nexus ts)
 
-learned_commands : (r : Reset) (s : Standing) → asked_by (learned_requests r s) ≡ commands_of (ready (spared r (tasks_at s)))
+pub learned_commands : (r : Reset) (s : Standing) → asked_by (learned_requests r s) ≡ commands_of (ready (spared r (tasks_at s)))
 learned_commands (OfUnit lun) (standing.LoggingIn p) = refl
 learned_commands OfTarget (standing.LoggingIn p) = refl
 learned_commands r (standing.Serving v) = request_commands v.session.nexus (ready (spared r v.session.tasks))

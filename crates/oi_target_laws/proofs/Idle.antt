@@ -74,7 +74,7 @@ first_or n l ls ms i same more = go (l.number == n) refl i where
   go true is h = subst (λ (b : Bool). AreIdle n (if b then ms else l ∷ without n ms)) (sym is) (same h)
   go false is h = subst (λ (b : Bool). AreIdle n (if b then ms else l ∷ without n ms)) (sym is) (h.0, more h.1)
 
-later_busy : (n : ℕ) (l : Link) (ls : List Link) → OneIsBusy n (l ∷ ls) → OneIsBusy n ls
+pub later_busy : (n : ℕ) (l : Link) (ls : List Link) → OneIsBusy n (l ∷ ls) → OneIsBusy n ls
 later_busy n l ls i = go (l.number == n) i where
   go : (b : Bool) → AreIdle n (if b then ls else l ∷ without n ls) → OneIsBusy n ls
   go true h = idle_without n n ls h

@@ -120,7 +120,7 @@ idle_reset n r units [] i = tt
 idle_reset n r units (l ∷ ls) i =
     (λ is. ap (λ (s : Standing). (learned r units s).standing) (i.0 is), idle_reset n r (learned r units l.standing).units ls i.1)
 
-busy_reset : (n : ℕ) (r : Reset) (units : List LogicalUnit) (ls : List Link) → OneIsBusy n ls → OneIsBusy n (reset_each r units ls).links
+pub busy_reset : (n : ℕ) (r : Reset) (units : List LogicalUnit) (ls : List Link) → OneIsBusy n ls → OneIsBusy n (reset_each r units ls).links
 busy_reset n r units [] i = tt
 busy_reset n r units (l ∷ ls) i = go (l.number == n) i (λ h. busy_reset n r (learned r units l.standing).units ls h) where
   rest : List Link

@@ -13,4 +13,5 @@ pub mod Moves
 pub mod Numbering
 pub mod Placing
 pub mod Steps
+pub mod Summing
 pub mod Turns

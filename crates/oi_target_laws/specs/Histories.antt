@@ -1,9 +1,9 @@
 -- The commands of a connection since the target was made, and what became of each of them. All is said of the connections of one number,
 -- which have followed one another where a number was given again.
-use Rattle.std.specs.Prelude.{◌≡◌, ◌+◌, ℕ, Bool, true, Option, Some, None, List, [], ◌∷◌, ◌++◌, bytes_eq, count_by, length, map, nat_lt, not, ◌&&◌, ◌==◌, if◌then◌else◌}
+use Rattle.std.specs.Prelude.{◌≡◌, ◌<◌, ◌+◌, ℕ, zero, suc, Bool, true, Option, Some, None, List, [], ◌∷◌, ◌++◌, bytes_eq, count_by, length, map, nat_lt, not, ◌&&◌, ◌==◌, if◌then◌else◌}
 use Rattle.std.specs.List.{flat_map}
 use Rattle.oi_pdu.specs.declared.codec.Pdu.{Pdu}
-use Rattle.oi_target.specs.Events.{Event, Left, Whole, Malformed, state_after}
+use Rattle.oi_target.specs.Events.{Event, Joined, Left, Whole, Malformed, state_after}
 use Rattle.oi_target.specs.Runs.{event_own, requests_of}
 use Rattle.oi_target.specs.Steps.{received_by}
 use Rattle.oi_target.specs.Targets.{Target, aside, link_of, nexus_of}
@@ -69,12 +69,12 @@ turns_on n c (e ∷ es) = turns_on n c es ++ event_turns n (state_after c es) e
 abbrev pub came_on : ℕ → TargetConfig → List Event → List UnitCommand
 came_on n c es = flat_map came_in (turns_on n c es)
 
--- the tasks that resets let be executed at once, one reset after another: they stood behind those that it takes
+-- the tasks that are executed at once as resets take those before them, one reset after another
 abbrev pub woken_by_all : List Reset → List Task → List Task
 woken_by_all [] ts = []
 woken_by_all (reset ∷ resets) ts = ready (spared reset ts) ++ woken_by_all resets (unready (spared reset ts))
 
--- what a PDU of a connection lets be executed of another one
+-- those of another connection, as a PDU of this one comes
 abbrev pub step_woken : Target → Standing → Pdu → Standing → List Task
 step_woken t (standing.Serving v) pdu other = woken_by_all (received_by v t pdu).session.resets (tasks_at other)
 step_woken t s pdu other = []
@@ -99,6 +99,23 @@ executed_on n c (e ∷ es) = executed_on n c es ++ event_executed n (state_after
 -- they are among the commands that the units were asked, in the same order
 abbrev pub ExecutedAreAsked : Type 0
 ExecutedAreAsked = (n : ℕ) (c : TargetConfig) (es : List Event) → Within (executed_on n c es) (map command_of_request (requests_of c es))
+
+-- the connections that came have numbers below this one
+abbrev pub AreBelow : ℕ → List Event → Type 0
+AreBelow k [] = Unit {0}
+AreBelow k (Joined n ∷ es) = (n < k) × AreBelow k es
+AreBelow k (e ∷ es) = AreBelow k es
+
+-- the sum over all numbers below this one
+abbrev pub sum_below : ℕ → (ℕ → ℕ) → ℕ
+sum_below zero g = 0
+sum_below (suc k) g = sum_below k g + g k
+
+-- and each command that the units were asked was executed on one connection, whatever is counted
+abbrev pub AskedAreExecuted : Type 0
+AskedAreExecuted =
+    (k : ℕ) (c : TargetConfig) (es : List Event) (f : UnitCommand → Bool) → AreBelow k es
+    → count_by f (map command_of_request (requests_of c es)) ≡ sum_below k (λ n. count_by f (executed_on n c es))
 
 -- the commands that a PDU of the connection ends before they are executed
 abbrev pub step_ended : Target → Standing → Pdu → List UnitCommand
