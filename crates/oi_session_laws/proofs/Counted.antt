@@ -3,11 +3,13 @@ use Rattle.std.proofs.Common.{◌≡◌, ◌∙◌, ◌+◌, ◌==◌, ◌||◌,
 use Rattle.std.proofs.lemmas.Bool.Decides.{nat_tests}
 use Rattle.std.proofs.lemmas.List.{length-map}
 use Rattle.std.specs.Option.{option_map_or}
+use Rattle.oi_base.specs.Counts.{bit}
 use Rattle.oi_history.specs.Courses.{is_overdue}
 use Rattle.oi_history.specs.Handling.{sent_under}
 use Rattle.oi_history.specs.Meanings.{Meanings, accepted_in, meanings}
 use Rattle.oi_history.specs.Permitted.{ArePermitted, Comes}
-use Rattle.oi_history.specs.Recovering.{carried_out, map_from, tasks_heard, tasks_step}
+use Rattle.oi_history.specs.Commands.{command_of}
+use Rattle.oi_history.specs.Recovering.{carried_out, map_from, submitted_in, tasks_heard, tasks_step}
 use Rattle.oi_history.specs.Tags.{holder}
 use Rattle.oi_history.specs.Tasks.{changed}
 use Rattle.oi_history.specs.declared.allocated.Allocated.{Allocated}
@@ -20,7 +22,7 @@ use Rattle.oi_history.specs.declared.phase.Handler.TheVariants.{Aborting, Resett
 use Rattle.oi_history.specs.declared.task.Task.{Task}
 use Rattle.oi_pdu.specs.declared.header.Header.{Header}
 use Rattle.oi_pdu.specs.declared.header.Header.TheVariants.{ScsiResponse, DataIn, TaskResponse}
-use Rattle.oi_session_laws.specs.Answers.{is_submit, was_submitted}
+use Rattle.oi_session_laws.specs.Answers.{is_request, is_submit, requests_in, was_submitted}
 
 count-from : (f : ℕ → Task → Task) (k : ℕ) (ts : List Task) → length (map_from k f ts) ≡ length ts
 count-from f k [] = refl
@@ -54,6 +56,9 @@ count_heard a at handler busy (ScsiResponse h) payload ts = count-under _ (holde
 count_heard a at handler busy (TaskResponse h) payload ts = count-if (sent_under h.tag.0 handler) _ ts (count-if (h.response == 0) _ ts (count_carried a at handler ts))
 count_heard a at handler busy head payload ts = refl
 
+none_more : (n m : ℕ) → n ≡ m → n ≡ 0 + m
+none_more n m is = omega (arith, is)
+
 -- the next id, and those below it
 next_id : (k id n more : ℕ) → k ≡ n → more ≡ suc n → (nat_eq k id || nat_lt id n) ≡ nat_lt id more
 next_id k id n more same is = grind (arith, nat_tests, same, is)
@@ -77,3 +82,21 @@ pub ids_in_order : (C : SessionConfig) (H : List Numbered) → ArePermitted C H 
 ids_in_order C [] legal id = grind (arith, nat_tests)
 ids_in_order C (n ∷ H) legal id =
     known_after C n.number (meanings C H) (accepted_in n.event (meanings C H)) n.event id (was_submitted id H) legal.0.comes (ids_in_order C H legal.1 id)
+
+-- as many as requests came in
+count_after : (C : SessionConfig) (at : ℕ) (m : Meanings) (accepted : Bool) (e : Event)
+    → length (tasks_step C at accepted m.phase m.handler m.busy e m.tasks) ≡ bit (is_request e) + length m.tasks
+count_after C at m accepted (Submit k request) = let more = length-append m.tasks (submitted_in m.phase at (command_of request) ∷ []) in omega (arith, more)
+count_after C at m accepted (Issue k generation tag cmdsn) = none_more _ _ (count-at _ k m.tasks)
+count_after C at m accepted (PduIn generation pdu) = none_more _ _ (count-if accepted _ m.tasks (count_heard C.tries at m.handler m.busy pdu.head pdu.payload m.tasks))
+count_after C at m accepted (Lost generation cause) = none_more _ _ (count-from _ 0 m.tasks)
+count_after C at m accepted (Tick reading) = none_more _ _ (count-if (is_overdue C.replacement reading m.phase) _ m.tasks (length-map m.tasks _))
+count_after C at m accepted (Abort k) = none_more _ _ (count-at _ k m.tasks)
+count_after C at m accepted (Deliver count) = none_more _ _ (length-map m.tasks _)
+count_after C at m accepted (Terminate cause) = none_more _ _ (length-map m.tasks _)
+count_after C at m accepted e = none_more (length m.tasks) (length m.tasks) refl
+
+pub requests_counted : (C : SessionConfig) (H : List Numbered) → length (meanings C H).tasks ≡ requests_in H
+requests_counted C [] = refl
+requests_counted C (n ∷ H) =
+    count_after C n.number (meanings C H) (accepted_in n.event (meanings C H)) n.event ∙ ap (λ (k : ℕ). bit (is_request n.event) + k) (requests_counted C H)

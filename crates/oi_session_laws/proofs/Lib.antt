@@ -1,6 +1,7 @@
 pub mod TagCounts
 pub mod Told
 pub mod Moved
+pub mod Outcomes
 pub mod Stays
 pub mod Tries
 pub mod Ends

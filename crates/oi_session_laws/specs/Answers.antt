@@ -1,5 +1,5 @@
 -- How often a submission is handed out.
-use Rattle.std.specs.Prelude.{◌≡◌, ◌≤◌, ◌==◌, ◌&&◌, ◌||◌, ◌+◌, ℕ, Bool, true, false, List, [], ◌∷◌, length, nat_lt}
+use Rattle.std.specs.Prelude.{◌≡◌, ◌≤◌, ◌==◌, ◌&&◌, ◌||◌, ◌+◌, ℕ, Bool, true, false, Option, None, Some, List, [], ◌∷◌, length, nat_lt, if◌then◌else◌}
 use Rattle.oi_base.specs.Counts.{bit}
 use Rattle.oi_history.specs.Meanings.{handed_so_far, meanings}
 use Rattle.oi_history.specs.Permitted.{ArePermitted}
@@ -10,6 +10,9 @@ use Rattle.oi_history.specs.declared.event.Event.{Event}
 use Rattle.oi_history.specs.declared.event.Event.TheVariants.{Submit, Deliver}
 use Rattle.oi_history.specs.declared.event.Numbered.{Numbered}
 use Rattle.oi_history.specs.declared.fate.Delivered.{Delivered}
+use Rattle.oi_history.specs.declared.fate.Fate.{Fate}
+use Rattle.oi_history.specs.declared.fate.Fate.TheVariants.{Done}
+use Rattle.oi_history.specs.declared.fate.Outcome.{Outcome}
 use Rattle.oi_session_laws.specs.Ends.{has_end}
 
 -- how often this id is among what was handed out
@@ -25,6 +28,25 @@ is_submit id e = false
 abbrev pub was_submitted : ℕ → List Numbered → Bool
 was_submitted id [] = false
 was_submitted id (n ∷ H) = is_submit id n.event || was_submitted id H
+
+-- how many requests came in
+abbrev pub is_request : Event → Bool
+is_request (Submit id request) = true
+is_request e = false
+
+abbrev pub requests_in : List Numbered → ℕ
+requests_in [] = 0
+requests_in (n ∷ H) = bit (is_request n.event) + requests_in H
+
+-- the outcome that was handed out for this id
+abbrev pub outcome_among : ℕ → List Delivered → Option Outcome
+outcome_among id [] = None
+outcome_among id (d ∷ ds) = if d.id == id then Some d.outcome else outcome_among id ds
+
+-- what a submission was done with, where it was handed out
+abbrev pub outcome_if : Bool → Fate → Option Outcome
+outcome_if true (Done outcome at) = Some outcome
+outcome_if told f = None
 
 -- outcomes were handed out
 abbrev pub is_handing : Event → Bool

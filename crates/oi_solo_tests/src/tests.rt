@@ -317,7 +317,11 @@ fn refusals_behind_the_end(rt: HostRuntime) -> Result<(), Fail> {
     assert_eq!(rt; session.deliver(&mut outcomes)?, 1);
     let outcome = Outcome::Host(HostCode::NoConnect);
     assert!(rt; outcomes.first() == Some(&Delivered { id: 0, outcome }));
-    assert_eq!(rt; session.close().events().len(), 4);
+    let run = session.close();
+    assert_eq!(rt; (run.events().len(), run.submitted()), (4, 1));
+    let outcome = Outcome::Host(HostCode::NoConnect);
+    assert!(rt; run.outcome(0) == Some(&outcome));
+    assert!(rt; run.outcome(1).is_none());
     Ok(())
 }
 
