@@ -112,22 +112,30 @@ fn written(alloc: Global, record: &NodeRecord) -> Result<Vec<u8>, Fail> {
     Ok(text)
 }
 
+fn writes(rt: &impl Abort, alloc: Global, record: &NodeRecord, wanted: &[u8]) -> Result<(), Fail> {
+    let text = written(alloc, record)?;
+    assert!(rt; text.as_slice() == wanted);
+    Ok(())
+}
+
+// A text that is read again is of the first key's record, and so is its copy.
+fn reads_back(rt: &impl Abort, alloc: Global, text: &[u8]) -> Result<(), Fail> {
+    let record = read(rt, alloc, text);
+    let key = first_key(rt, alloc)?;
+    assert!(rt; *record.key() == key);
+    let copy = record.copy(alloc)?;
+    writes(rt, alloc, &copy, text)
+}
+
 #[test]
 fn fresh_record(rt: HostRuntime) -> Result<(), Fail> {
     let alloc = rt.alloc();
     let record = NodeRecord::fresh(alloc, first_key(&rt, alloc)?)?;
-    let wanted = text_of(
-        alloc,
-        SECOND,
-        b"node.session.oi.count_disrupted = Yes\n# END RECORD\n",
-    )?;
-    assert!(rt; written(alloc, &record)?.as_slice() == wanted.as_slice());
     assert_eq!(rt; record.count(), 30);
-    let again = read(&rt, alloc, wanted.as_slice());
-    assert!(rt; *again.key() == first_key(&rt, alloc)?);
-    let copy = again.copy(alloc)?;
-    assert!(rt; written(alloc, &copy)?.as_slice() == wanted.as_slice());
-    Ok(())
+    let end = b"node.session.oi.count_disrupted = Yes\n# END RECORD\n";
+    let wanted = text_of(alloc, SECOND, end)?;
+    writes(&rt, alloc, &record, wanted.as_slice())?;
+    reads_back(&rt, alloc, wanted.as_slice())
 }
 
 fn update(
@@ -150,47 +158,63 @@ fn update(
     Ok(())
 }
 
-// A text of the first schema with an unknown pair last is read and updated.
+const NEWEST: &[u8] = b"node.session.oi.count_disrupted";
+
+// The record of a text of the first schema with an unknown pair last.
+fn migrated(rt: &impl Abort, alloc: Global) -> Result<NodeRecord, Fail> {
+    let old = text_of(alloc, FIRST, b"site = north\n# END RECORD\n")?;
+    let record = read(rt, alloc, old.as_slice());
+    let count = record.count();
+    assert!(rt; 0 < count);
+    let (name, value) = record.pair(count - 1);
+    assert!(rt; name == NEWEST);
+    assert!(rt; value == b"Yes".as_slice());
+    Ok(record)
+}
+
 #[test]
 fn record_schema_migration(rt: HostRuntime) -> Result<(), Fail> {
     let alloc = rt.alloc();
-    let old = text_of(alloc, FIRST, b"site = north\n# END RECORD\n")?;
-    let mut record = read(&rt, alloc, old.as_slice());
-    let (name, value) = record.pair(record.count() - 1);
-    assert!(rt; name == b"node.session.oi.count_disrupted".as_slice());
-    assert!(rt; value == b"Yes".as_slice());
-    let name = b"node.session.oi.count_disrupted".as_slice();
-    assert!(rt; !takes_value(alloc, name, b"Maybe")?);
-    update(&rt, alloc, &mut record, name, b"No")?;
-    let wanted = text_of(
-        alloc,
-        SECOND,
-        b"site = north\nnode.session.oi.count_disrupted = No\n# END RECORD\n",
-    )?;
-    assert!(rt; written(alloc, &record)?.as_slice() == wanted.as_slice());
-    Ok(())
+    assert!(rt; !takes_value(alloc, NEWEST, b"Maybe")?);
+    let mut record = migrated(&rt, alloc)?;
+    update(&rt, alloc, &mut record, NEWEST, b"No")?;
+    let end = b"site = north\nnode.session.oi.count_disrupted = No\n# END RECORD\n";
+    let wanted = text_of(alloc, SECOND, end)?;
+    writes(&rt, alloc, &record, wanted.as_slice())
+}
+
+// The ends of a text of the first schema, and of the text that is written of it.
+static OLD_ENDS: [(&[u8], &[u8]); 2] = [
+    (
+        b"node.session.oi.count_disrupted = Maybe\nsite = a = b\n# END RECORD\n",
+        b"node.session.oi.count_disrupted = Yes\nsite = a = b\n# END RECORD\n",
+    ),
+    (
+        b"node.session.oi.count_disrupted = No\n# END RECORD\n",
+        b"node.session.oi.count_disrupted = No\n# END RECORD\n",
+    ),
+];
+
+fn keeps_end(rt: &impl Abort, alloc: Global, end: &[u8], kept: &[u8]) -> Result<(), Fail> {
+    let old = text_of(alloc, FIRST, end)?;
+    let record = read(rt, alloc, old.as_slice());
+    let wanted = text_of(alloc, SECOND, kept)?;
+    writes(rt, alloc, &record, wanted.as_slice())
+}
+
+// A text of the second schema may have this end.
+fn takes_end(alloc: Global, end: &[u8]) -> Result<bool, Fail> {
+    let new = text_of(alloc, SECOND, end)?;
+    Ok(read_text(alloc, new.as_slice()).is_ok())
 }
 
 // The first schema does not know the newest name: a value outside its range is replaced where it stands.
 #[test]
 fn newest_name_in_an_old_text(rt: HostRuntime) -> Result<(), Fail> {
     let alloc = rt.alloc();
-    for (line, kept) in [
-        (
-            b"node.session.oi.count_disrupted = Maybe\nsite = a = b\n# END RECORD\n".as_slice(),
-            b"node.session.oi.count_disrupted = Yes\nsite = a = b\n# END RECORD\n".as_slice(),
-        ),
-        (
-            b"node.session.oi.count_disrupted = No\n# END RECORD\n".as_slice(),
-            b"node.session.oi.count_disrupted = No\n# END RECORD\n".as_slice(),
-        ),
-    ] {
-        let old = text_of(alloc, FIRST, line)?;
-        let record = read(&rt, alloc, old.as_slice());
-        let wanted = text_of(alloc, SECOND, kept)?;
-        assert!(rt; written(alloc, &record)?.as_slice() == wanted.as_slice());
-        let new = text_of(alloc, SECOND, line)?;
-        assert_eq!(rt; read_text(alloc, new.as_slice()).is_ok(), line == kept);
+    for (end, kept) in &OLD_ENDS {
+        keeps_end(&rt, alloc, *end, *kept)?;
+        assert_eq!(rt; takes_end(alloc, *end)?, *end == *kept);
     }
     Ok(())
 }
@@ -203,152 +227,110 @@ fn bad_line(alloc: Global, text: &[u8]) -> Option<u32> {
     }
 }
 
-// The lines are counted by hand; the first setting stands in line 2, the last line is line 31.
+// What the line at a place is replaced by, and which line is bad then: the lines are counted by hand; the first setting
+// stands in line 2, the last line is line 31.
+static OTHER_LINES: [(usize, &[u8], Option<u32>); 25] = [
+    (0, b"node.name = iqm.a\n", Some(2)),
+    (0, b"node.name = iqn.a\nnode.name = iqn.a\n", Some(3)),
+    (1, b"node.tpgt = 01\n", Some(3)),
+    (1, b"node.tpgt = 65536\n", Some(3)),
+    (1, b"node.tpgt = 65535\n", None),
+    (2, b"node.conn[0].address = 127.0.0.1:1\n", Some(4)),
+    (2, b"node.conn[0].address = [FE80::1]\n", None),
+    (3, b"node.conn[0].port = 0\n", Some(5)),
+    (4, b"iface.iscsi_ifacename = Default\n", Some(6)),
+    (5, b"node.startup = onboot\n", Some(7)),
+    (5, b"\n", Some(7)),
+    (5, b"node.startup=manual\n", Some(7)),
+    (5, b"node.startup  = manual\n", Some(7)),
+    (5, b"node.startup\t= manual\n", Some(7)),
+    (5, b"= = =\nnode.startup = automatic\n", None),
+    (5, b" = x\nnode.startup = automatic\n", Some(7)),
+    (5, b"", Some(30)),
+    (11, b"node.session.timeo.replacement_timeout = -1\n", None),
+    (
+        11,
+        b"node.session.timeo.replacement_timeout = -2\n",
+        Some(13),
+    ),
+    (
+        11,
+        b"node.session.timeo.replacement_timeout = 86401\n",
+        Some(13),
+    ),
+    (19, b"node.session.cmds_max = 0\n", Some(21)),
+    (19, b"node.session.cmds_max = 2049\n", Some(21)),
+    (19, b"node.session.cmds_max = +1\n", Some(21)),
+    (21, b"node.session.iscsi.InitialR2T = no\n", Some(23)),
+    (28, b"site = north", Some(31)),
+];
+
 #[test]
 fn bad_lines(rt: HostRuntime) -> Result<(), Fail> {
     let alloc = rt.alloc();
-    for (at, other, line) in [
-        (0, b"node.name = iqm.a\n".as_slice(), Some(2)),
-        (
-            0,
-            b"node.name = iqn.a\nnode.name = iqn.a\n".as_slice(),
-            Some(3),
-        ),
-        (1, b"node.tpgt = 01\n".as_slice(), Some(3)),
-        (1, b"node.tpgt = 65536\n".as_slice(), Some(3)),
-        (1, b"node.tpgt = 65535\n".as_slice(), None),
-        (
-            2,
-            b"node.conn[0].address = 127.0.0.1:1\n".as_slice(),
-            Some(4),
-        ),
-        (2, b"node.conn[0].address = [FE80::1]\n".as_slice(), None),
-        (3, b"node.conn[0].port = 0\n".as_slice(), Some(5)),
-        (4, b"iface.iscsi_ifacename = Default\n".as_slice(), Some(6)),
-        (5, b"node.startup = onboot\n".as_slice(), Some(7)),
-        (5, b"\n".as_slice(), Some(7)),
-        (5, b"node.startup=manual\n".as_slice(), Some(7)),
-        (5, b"node.startup  = manual\n".as_slice(), Some(7)),
-        (5, b"node.startup\t= manual\n".as_slice(), Some(7)),
-        (5, b"= = =\nnode.startup = automatic\n".as_slice(), None),
-        (5, b" = x\nnode.startup = automatic\n".as_slice(), Some(7)),
-        (5, b"".as_slice(), Some(30)),
-        (
-            11,
-            b"node.session.timeo.replacement_timeout = -1\n".as_slice(),
-            None,
-        ),
-        (
-            11,
-            b"node.session.timeo.replacement_timeout = -2\n".as_slice(),
-            Some(13),
-        ),
-        (
-            11,
-            b"node.session.timeo.replacement_timeout = 86401\n".as_slice(),
-            Some(13),
-        ),
-        (19, b"node.session.cmds_max = 0\n".as_slice(), Some(21)),
-        (19, b"node.session.cmds_max = 2049\n".as_slice(), Some(21)),
-        (19, b"node.session.cmds_max = +1\n".as_slice(), Some(21)),
-        (
-            21,
-            b"node.session.iscsi.InitialR2T = no\n".as_slice(),
-            Some(23),
-        ),
-        (28, b"site = north".as_slice(), Some(31)),
-    ] {
-        let text = text_with(alloc, FIRST, at, other, END)?;
-        assert_eq!(rt; bad_line(alloc, text.as_slice()), line, "{other:?}");
+    for (at, other, line) in &OTHER_LINES {
+        let text = text_with(alloc, FIRST, *at, *other, END)?;
+        assert_eq!(rt; bad_line(alloc, text.as_slice()), *line, "{other:?}");
+    }
+    Ok(())
+}
+
+// A first line, what follows the lines, and which line is bad then.
+static OTHER_ENDS: [(&[u8], &[u8], Option<u32>); 10] = [
+    (FIRST, b"", Some(31)),
+    (FIRST, b"# END RECORD", Some(31)),
+    (FIRST, b"# END RECORD \n", Some(31)),
+    (FIRST, b"# END RECORD\n\n", Some(32)),
+    (FIRST, b"# END RECORD\n# END RECORD\n", Some(32)),
+    (FIRST, END, None),
+    (SECOND, END, Some(31)),
+    (b"# BEGIN RECORD 3\n", END, Some(1)),
+    (b"", END, Some(1)),
+    (b"\n# BEGIN RECORD 1\n", END, Some(1)),
+];
+
+#[test]
+fn bad_ends(rt: HostRuntime) -> Result<(), Fail> {
+    let alloc = rt.alloc();
+    for (begin, end, line) in &OTHER_ENDS {
+        let text = text_of(alloc, *begin, *end)?;
+        assert_eq!(rt; bad_line(alloc, text.as_slice()), *line, "{end:?}");
     }
     Ok(())
 }
 
 #[test]
-fn bad_ends(rt: HostRuntime) -> Result<(), Fail> {
+fn short_texts(rt: HostRuntime) {
     let alloc = rt.alloc();
-    for (begin, end, line) in [
-        (FIRST, b"".as_slice(), Some(31)),
-        (FIRST, b"# END RECORD".as_slice(), Some(31)),
-        (FIRST, b"# END RECORD \n".as_slice(), Some(31)),
-        (FIRST, b"# END RECORD\n\n".as_slice(), Some(32)),
-        (FIRST, b"# END RECORD\n# END RECORD\n".as_slice(), Some(32)),
-        (FIRST, END, None),
-        (SECOND, END, Some(31)),
-        (b"# BEGIN RECORD 3\n".as_slice(), END, Some(1)),
-        (b"".as_slice(), END, Some(1)),
-        (b"\n# BEGIN RECORD 1\n".as_slice(), END, Some(1)),
-    ] {
-        let text = text_of(alloc, begin, end)?;
-        assert_eq!(rt; bad_line(alloc, text.as_slice()), line, "{end:?}");
-    }
     assert_eq!(rt; bad_line(alloc, b""), Some(1));
     assert_eq!(rt; bad_line(alloc, FIRST), Some(2));
     assert_eq!(rt;
         bad_line(alloc, b"# BEGIN RECORD 2\n# END RECORD\n"),
         Some(2)
     );
-    Ok(())
 }
+
+// Names and values, whether the name is open, and whether it takes the value.
+static VALUES: [(&[u8], &[u8], bool, bool); 11] = [
+    (b"node.session.cmds_max", b"2048", true, true),
+    (b"node.session.cmds_max", b"", true, false),
+    (b"node.session.queue_depth", b"1025", true, false),
+    (b"node.session.auth.authmethod", b"CHAP", true, true),
+    (b"node.session.auth.password", b"", true, true),
+    (b"node.session.auth.password", b"a\nb", true, false),
+    (b"node.conn[0].timeo.noop_out_interval", b"0", true, true),
+    (b"node.conn[0].timeo.noop_out_timeout", b"0", true, false),
+    (b"node.name", b"iqn.a", false, true),
+    (b"node.name", b"a", false, false),
+    (b"node.nothing", b"0", false, true),
+];
 
 #[test]
 fn names_and_values(rt: HostRuntime) -> Result<(), Fail> {
     let alloc = rt.alloc();
-    for (name, value, is_open_name, taken) in [
-        (
-            b"node.session.cmds_max".as_slice(),
-            b"2048".as_slice(),
-            true,
-            true,
-        ),
-        (
-            b"node.session.cmds_max".as_slice(),
-            b"".as_slice(),
-            true,
-            false,
-        ),
-        (
-            b"node.session.queue_depth".as_slice(),
-            b"1025".as_slice(),
-            true,
-            false,
-        ),
-        (
-            b"node.session.auth.authmethod".as_slice(),
-            b"CHAP".as_slice(),
-            true,
-            true,
-        ),
-        (
-            b"node.session.auth.password".as_slice(),
-            b"".as_slice(),
-            true,
-            true,
-        ),
-        (
-            b"node.session.auth.password".as_slice(),
-            b"a\nb".as_slice(),
-            true,
-            false,
-        ),
-        (
-            b"node.conn[0].timeo.noop_out_interval".as_slice(),
-            b"0".as_slice(),
-            true,
-            true,
-        ),
-        (
-            b"node.conn[0].timeo.noop_out_timeout".as_slice(),
-            b"0".as_slice(),
-            true,
-            false,
-        ),
-        (b"node.name".as_slice(), b"iqn.a".as_slice(), false, true),
-        (b"node.name".as_slice(), b"a".as_slice(), false, false),
-        (b"node.nothing".as_slice(), b"0".as_slice(), false, true),
-    ] {
-        assert_eq!(rt; is_open(name), is_open_name, "{name:?}");
-        assert_eq!(rt; takes_value(alloc, name, value)?, taken, "{name:?}");
+    for (name, value, open, taken) in &VALUES {
+        assert_eq!(rt; is_open(*name), *open, "{name:?}");
+        assert_eq!(rt; takes_value(alloc, *name, *value)?, *taken, "{name:?}");
     }
     Ok(())
 }
@@ -361,7 +343,7 @@ fn mark_polled(alloc: Global, record: &mut NodeRecord) -> Result<(), Fail> {
 }
 
 #[test]
-fn marks_and_values(rt: HostRuntime) -> Result<(), Fail> {
+fn marks(rt: HostRuntime) -> Result<(), Fail> {
     let alloc = rt.alloc();
     let mut record = NodeRecord::fresh(alloc, first_key(&rt, alloc)?)?;
     assert!(rt; record.value(b"oi.polled").is_none());
@@ -370,6 +352,14 @@ fn marks_and_values(rt: HostRuntime) -> Result<(), Fail> {
     let (name, value) = record.pair(30);
     assert!(rt; name == b"oi.polled".as_slice());
     assert!(rt; value == b"127.0.0.1:3260".as_slice());
+    Ok(())
+}
+
+#[test]
+fn values(rt: HostRuntime) -> Result<(), Fail> {
+    let alloc = rt.alloc();
+    let mut record = NodeRecord::fresh(alloc, first_key(&rt, alloc)?)?;
+    mark_polled(alloc, &mut record)?;
     match record.value(b"node.session.cmds_max") {
         Some(value) => assert!(rt; value.as_slice() == b"128".as_slice()),
         None => panic!(rt; "no value"),
@@ -377,74 +367,65 @@ fn marks_and_values(rt: HostRuntime) -> Result<(), Fail> {
     Ok(())
 }
 
+fn has_path(rt: &impl Abort, alloc: Global, key: &RecordKey, wanted: &[u8]) -> Result<(), Fail> {
+    let path = path_of(alloc, key)?;
+    assert!(rt; path.as_slice() == wanted);
+    Ok(())
+}
+
 #[test]
 fn paths(rt: HostRuntime) -> Result<(), Fail> {
     let alloc = rt.alloc();
-    let path = path_of(alloc, &first_key(&rt, alloc)?)?;
     let wanted = b"nodes/iqn.2024-01.org.example:d1/127.0.0.1,3260,1/default";
-    assert!(rt; path.as_slice() == wanted.as_slice());
-    let other = key(
-        &rt,
-        alloc,
-        "eui.02004567A425678D",
-        "[FE80::1]:3261,7",
-        b"eth_0",
-    )?;
-    let path = path_of(alloc, &other)?;
+    has_path(&rt, alloc, &first_key(&rt, alloc)?, wanted)?;
+    let target = "eui.02004567A425678D";
+    let other = key(&rt, alloc, target, "[FE80::1]:3261,7", b"eth_0")?;
     let wanted = b"nodes/eui.02004567A425678D/[fe80::1],3261,7/eth_0";
-    assert!(rt; path.as_slice() == wanted.as_slice());
+    has_path(&rt, alloc, &other, wanted)?;
     assert!(rt; other.copy(alloc)? == other);
     Ok(())
 }
 
-// Each key comes before the next one: port 999 before 3260, though its path does not.
+type KeyText = (&'static str, &'static str, &'static [u8]);
+
+// Each key comes before the one beside it: port 999 before 3260, though its path does not.
+static ORDERED: [(KeyText, KeyText); 5] = [
+    (
+        ("iqn.a", "9.9.9.9:9,9", b"z"),
+        ("iqn.b", "1.1.1.1:1,0", b"a"),
+    ),
+    (
+        ("iqn.a", "10.0.0.1:9,9", b"z"),
+        ("iqn.a", "9.0.0.1:1,0", b"a"),
+    ),
+    (
+        ("iqn.a", "1.1.1.1:999,9", b"z"),
+        ("iqn.a", "1.1.1.1:3260,0", b"a"),
+    ),
+    (
+        ("iqn.a", "1.1.1.1:1,9", b"z"),
+        ("iqn.a", "1.1.1.1:1,10", b"a"),
+    ),
+    (
+        ("iqn.a", "1.1.1.1:1,1", b"if1"),
+        ("iqn.a", "1.1.1.1:1,1", b"if2"),
+    ),
+];
+
+fn key_of(
+    rt: &impl Abort,
+    alloc: Global,
+    (target, portal, iface): KeyText,
+) -> Result<RecordKey, Fail> {
+    key(rt, alloc, target, portal, iface)
+}
+
 #[test]
 fn order_of_keys(rt: HostRuntime) -> Result<(), Fail> {
     let alloc = rt.alloc();
-    for (target, portal, iface, other, place, through) in [
-        (
-            "iqn.a",
-            "9.9.9.9:9,9",
-            b"z".as_slice(),
-            "iqn.b",
-            "1.1.1.1:1,0",
-            b"a".as_slice(),
-        ),
-        (
-            "iqn.a",
-            "10.0.0.1:9,9",
-            b"z".as_slice(),
-            "iqn.a",
-            "9.0.0.1:1,0",
-            b"a".as_slice(),
-        ),
-        (
-            "iqn.a",
-            "1.1.1.1:999,9",
-            b"z".as_slice(),
-            "iqn.a",
-            "1.1.1.1:3260,0",
-            b"a".as_slice(),
-        ),
-        (
-            "iqn.a",
-            "1.1.1.1:1,9",
-            b"z".as_slice(),
-            "iqn.a",
-            "1.1.1.1:1,10",
-            b"a".as_slice(),
-        ),
-        (
-            "iqn.a",
-            "1.1.1.1:1,1",
-            b"if1".as_slice(),
-            "iqn.a",
-            "1.1.1.1:1,1",
-            b"if2".as_slice(),
-        ),
-    ] {
-        let least = key(&rt, alloc, target, portal, iface)?;
-        let greatest = key(&rt, alloc, other, place, through)?;
+    for (before, after) in &ORDERED {
+        let least = key_of(&rt, alloc, *before)?;
+        let greatest = key_of(&rt, alloc, *after)?;
         assert!(rt; least < greatest);
         assert!(rt; least != greatest);
     }
