@@ -1,4 +1,4 @@
-ghost use Rattle.std.specs.Prelude.{◌≡◌, IfOk, Some};
+ghost use Rattle.std.specs.Prelude.{◌≡◌, IfOk, None, Some};
 ghost use Rattle.oi_login.specs.Configs.{IsValidAuth, IsValidMutual};
 
 use oi_base::{Blob, Label, LoginDone, Mutual, Params};
@@ -73,6 +73,20 @@ fn sends(
     Ok(())
 }
 
+// The same of a response without a status, of which these are byte 1, StatSN and text.
+fn answers(
+    rt: &impl Abort,
+    a: Global,
+    login: &mut Login,
+    (flags, stat): (u8, u8),
+    text: &[u8],
+    sent: (u8, u8),
+    answer: &[u8],
+) -> Result<(), Fail> {
+    let given = response(a, flags, (0, 0), stat, text)?;
+    sends(rt, a, login, &given, sent, answer)
+}
+
 fn fails(rt: &impl Abort, login: &mut Login, response: &Pdu, fault: LoginFault) {
     assert_eq!(rt; login.next(response), Err(fault));
     assert_eq!(rt; login.next(response), Err(LoginFault::Over));
@@ -85,20 +99,26 @@ fn begun(a: Global) -> Result<Login, Fail> {
     Ok(login)
 }
 
+static FIRST_HEADER: [u8; 48] = [
+    0x43, 0x81, 0, 0, 0, 0, 0, 0x79, 0x80, 0, 0, 0, 0, 1, 0, 0, 0, 0, 0, 0, 0, 0, 0, 0, 0, 0, 0, 1,
+    0, 0, 0, 0, 0, 0, 0, 0, 0, 0, 0, 0, 0, 0, 0, 0, 0, 0, 0, 0,
+];
+
+fn first_bytes(a: Global) -> Result<Vec<u8>, Fail> {
+    let mut bytes = Vec::from_slice(a, &FIRST_HEADER)?;
+    bytes.extend_from_slice(FIRST)?;
+    bytes.extend_from_slice(&[0, 0, 0])?;
+    Ok(bytes)
+}
+
 #[test]
 fn first_login_request(rt: HostRuntime) -> Result<(), Fail> {
     let a = rt.alloc();
+    let wanted = first_bytes(a)?;
     let config = settings(a, None)?;
     let (_login, request) = Login::start(a, config)?;
     let mut bytes = Vec::new(a);
     write_pdu(&request, &mut bytes)?;
-    let header = [
-        0x43, 0x81, 0, 0, 0, 0, 0, 0x79, 0x80, 0, 0, 0, 0, 1, 0, 0, 0, 0, 0, 0, 0, 0, 0, 0, 0, 0,
-        0, 1, 0, 0, 0, 0, 0, 0, 0, 0, 0, 0, 0, 0, 0, 0, 0, 0, 0, 0, 0, 0,
-    ];
-    let mut wanted = header.to_vec(a)?;
-    wanted.extend_from_slice(FIRST)?;
-    wanted.extend_from_slice(&[0, 0, 0])?;
     assert_eq!(rt; bytes, wanted);
     Ok(())
 }
@@ -106,16 +126,27 @@ fn first_login_request(rt: HostRuntime) -> Result<(), Fail> {
 // A login of which the security stage is through.
 fn offered(rt: &impl Abort, a: Global) -> Result<Login, Fail> {
     let mut login = begun(a)?;
-    sends(
-        rt,
-        a,
-        &mut login,
-        &response(a, 0x81, (0, 0), 7, NOTHING)?,
-        (0x87, 8),
-        OFFER,
-    )?;
+    answers(rt, a, &mut login, (0x81, 7), NOTHING, (0x87, 8), OFFER)?;
     Ok(login)
 }
+
+const DONE: LoginDone = LoginDone {
+    params: Params {
+        initial_r2t: false,
+        immediate: true,
+        max_send: 65_536,
+        max_recv: 262_144,
+        max_burst: 262_144,
+        first_burst: 65_536,
+        outstanding: 1,
+        time2wait: 2,
+        time2retain: 20,
+    },
+    tsih: 5,
+    cmdsn: 1,
+    max: 32,
+    exp_stat: 9,
+};
 
 #[test]
 fn login_reaches_full_feature_phase(rt: HostRuntime) -> Result<(), Fail> {
@@ -123,24 +154,7 @@ fn login_reaches_full_feature_phase(rt: HostRuntime) -> Result<(), Fail> {
     let mut login = offered(&rt, a)?;
     let text = b"InitialR2T=No\0MaxRecvDataSegmentLength=65536\0";
     let last = response(a, 0x87, (0, 0), 8, text)?;
-    let done = LoginDone {
-        params: Params {
-            initial_r2t: false,
-            immediate: true,
-            max_send: 65_536,
-            max_recv: 262_144,
-            max_burst: 262_144,
-            first_burst: 65_536,
-            outstanding: 1,
-            time2wait: 2,
-            time2retain: 20,
-        },
-        tsih: 5,
-        cmdsn: 1,
-        max: 32,
-        exp_stat: 9,
-    };
-    assert_eq!(rt; login.next(&last), Ok(LoginStep::Done(done)));
+    assert_eq!(rt; login.next(&last), Ok(LoginStep::Done(DONE)));
     assert_eq!(rt; login.next(&last), Err(LoginFault::Over));
     Ok(())
 }
@@ -163,25 +177,26 @@ fn offer_fails(
 #[test]
 fn refused_logins(rt: HostRuntime) -> Result<(), Fail> {
     let a = rt.alloc();
-    let key = Label::from_slice(a, b"HeaderDigest")?;
-    let text = b"InitialR2T=No\0HeaderDigest=CRC32C\0";
-    offer_fails(&rt, a, 0x87, (0, 0), text, LoginFault::Key { key })?;
     let status = LoginFault::Status {
         class: 2,
         detail: 3,
     };
     offer_fails(&rt, a, 0x87, (2, 3), NOTHING, status)?;
-    let key = Label::new(a);
-    offer_fails(
-        &rt,
-        a,
-        0x87,
-        (0, 0),
-        b"InitialR2T=No",
-        LoginFault::Key { key },
-    )?;
     offer_fails(&rt, a, 0x81, (0, 0), NOTHING, LoginFault::WrongStage)?;
     offer_fails(&rt, a, 0x85, (0, 0), NOTHING, LoginFault::WrongStage)
+}
+
+fn key_fails(rt: &impl Abort, a: Global, text: &[u8], key: &[u8]) -> Result<(), Fail> {
+    let key = Label::from_slice(a, key)?;
+    offer_fails(rt, a, 0x87, (0, 0), text, LoginFault::Key { key })
+}
+
+#[test]
+fn refused_keys(rt: HostRuntime) -> Result<(), Fail> {
+    let a = rt.alloc();
+    let text = b"InitialR2T=No\0HeaderDigest=CRC32C\0";
+    key_fails(&rt, a, text, b"HeaderDigest")?;
+    key_fails(&rt, a, b"InitialR2T=No", b"")
 }
 
 // The digest of the alphabet (RFC 1321): of `a`, `bcdefghijklm` and `nopqrstuvwxyz` for this initiator, and of `a`, `bcdefghij`
@@ -235,8 +250,8 @@ fn named(rt: &impl Abort, a: Global, wanted: Option<Mutual>) -> Result<Login, Fa
     requires { IsValidMutual wanted }
 {
     let mut login = opened(rt, a, wanted)?;
-    let answer = response(a, 0, (0, 0), 1, b"AuthMethod=CHAP\0")?;
-    sends(rt, a, &mut login, &answer, (0, 2), b"CHAP_A=5\0")?;
+    let text = b"AuthMethod=CHAP\0";
+    answers(rt, a, &mut login, (0, 1), text, (0, 2), b"CHAP_A=5\0")?;
     Ok(login)
 }
 
@@ -244,8 +259,7 @@ fn named(rt: &impl Abort, a: Global, wanted: Option<Mutual>) -> Result<Login, Fa
 fn challenged(rt: &impl Abort, a: Global) -> Result<Login, Fail> {
     let wanted = bob(a)?;
     let mut login = named(rt, a, wanted)?;
-    let answer = response(a, 0, (0, 0), 2, CHALLENGE)?;
-    sends(rt, a, &mut login, &answer, (0x81, 3), BOTH)?;
+    answers(rt, a, &mut login, (0, 2), CHALLENGE, (0x81, 3), BOTH)?;
     Ok(login)
 }
 
@@ -257,138 +271,141 @@ fn opening_fails(
     fault: LoginFault,
 ) -> Result<(), Fail> {
     let mut login = opened(rt, a, None)?;
-    fails(rt, &mut login, &response(a, flags, (0, 0), 1, text)?, fault);
+    let given = response(a, flags, (0, 0), 1, text)?;
+    fails(rt, &mut login, &given, fault);
     Ok(())
 }
 
 fn challenge_fails(rt: &impl Abort, a: Global, text: &[u8]) -> Result<(), Fail> {
     let mut login = named(rt, a, None)?;
-    fails(
-        rt,
-        &mut login,
-        &response(a, 0, (0, 0), 2, text)?,
-        LoginFault::Auth,
-    );
+    let given = response(a, 0, (0, 0), 2, text)?;
+    fails(rt, &mut login, &given, LoginFault::Auth);
     Ok(())
 }
 
 fn challenge_passes(rt: &impl Abort, a: Global, text: &[u8]) -> Result<(), Fail> {
     let mut login = named(rt, a, None)?;
-    sends(
-        rt,
-        a,
-        &mut login,
-        &response(a, 0, (0, 0), 2, text)?,
-        (0x81, 3),
-        RESPONSE,
-    )?;
-    sends(
-        rt,
-        a,
-        &mut login,
-        &response(a, 0x81, (0, 0), 3, NOTHING)?,
-        (0x87, 4),
-        OFFER,
-    )
+    answers(rt, a, &mut login, (0, 2), text, (0x81, 3), RESPONSE)?;
+    answers(rt, a, &mut login, (0x81, 3), NOTHING, (0x87, 4), OFFER)
 }
 
 fn proof_fails(rt: &impl Abort, a: Global, text: &[u8]) -> Result<(), Fail> {
     let mut login = challenged(rt, a)?;
-    fails(
-        rt,
-        &mut login,
-        &response(a, 0x81, (0, 0), 3, text)?,
-        LoginFault::Auth,
-    );
+    let given = response(a, 0x81, (0, 0), 3, text)?;
+    fails(rt, &mut login, &given, LoginFault::Auth);
     Ok(())
 }
 
 fn proof_passes(rt: &impl Abort, a: Global, text: &[u8]) -> Result<(), Fail> {
     let mut login = challenged(rt, a)?;
-    sends(
-        rt,
-        a,
-        &mut login,
-        &response(a, 0x81, (0, 0), 3, text)?,
-        (0x87, 4),
-        OFFER,
-    )
+    answers(rt, a, &mut login, (0x81, 3), text, (0x87, 4), OFFER)
+}
+
+static REFUSED_CHALLENGES: [&[u8]; 4] = [
+    b"CHAP_A=7\0CHAP_I=97\0CHAP_C=0x6e\0",
+    b"CHAP_A=5\0CHAP_I=256\0CHAP_C=0x6e\0",
+    b"CHAP_A=5\0CHAP_I=97\0CHAP_C=0x\0",
+    b"CHAP_A=5\0CHAP_I=97\0CHAP_C=0x6e\0CHAP_I=97\0",
+];
+
+#[test]
+fn chap_refusals(rt: HostRuntime) -> Result<(), Fail> {
+    for text in &REFUSED_CHALLENGES {
+        challenge_fails(&rt, rt.alloc(), *text)?;
+    }
+    Ok(())
 }
 
 #[test]
-fn chap_refusals_and_forms(rt: HostRuntime) -> Result<(), Fail> {
+fn chap_forms(rt: HostRuntime) -> Result<(), Fail> {
     let a = rt.alloc();
-    challenge_fails(&rt, a, b"CHAP_A=7\0CHAP_I=97\0CHAP_C=0x6e\0")?;
-    challenge_fails(&rt, a, b"CHAP_A=5\0CHAP_I=256\0CHAP_C=0x6e\0")?;
-    challenge_fails(&rt, a, b"CHAP_A=5\0CHAP_I=97\0CHAP_C=0x\0")?;
-    challenge_fails(&rt, a, b"CHAP_A=5\0CHAP_I=97\0CHAP_C=0x6e\0CHAP_I=97\0")?;
     challenge_passes(&rt, a, CHALLENGE)?;
     let forms = b"CHAP_A=0x5\0CHAP_I=0x61\0CHAP_C=0bbm9wcXJzdHV2d3h5eg==\0";
     challenge_passes(&rt, a, forms)
 }
 
+static REFUSED_OFFERS: [&[u8]; 3] = [
+    b"AuthMethod=None\0",
+    NOTHING,
+    b"AuthMethod=CHAP\0AuthMethod=CHAP\0",
+];
+
 #[test]
 fn offers_of_chap(rt: HostRuntime) -> Result<(), Fail> {
     let a = rt.alloc();
-    opening_fails(&rt, a, 0, b"AuthMethod=None\0", LoginFault::Auth)?;
-    opening_fails(&rt, a, 0, NOTHING, LoginFault::Auth)?;
-    let twice = b"AuthMethod=CHAP\0AuthMethod=CHAP\0";
-    opening_fails(&rt, a, 0, twice, LoginFault::Auth)?;
+    for text in &REFUSED_OFFERS {
+        opening_fails(&rt, a, 0, *text, LoginFault::Auth)?;
+    }
     opening_fails(&rt, a, 0x81, b"AuthMethod=CHAP\0", LoginFault::WrongStage)
 }
 
+static REFUSED_PROOFS: [&[u8]; 3] = [
+    b"CHAP_N=bob\0CHAP_R=0xc3fcd3d76192e4007dfb496cca67e13c\0",
+    b"CHAP_R=0xc3fcd3d76192e4007dfb496cca67e13b\0",
+    b"CHAP_N=bobo\0CHAP_R=0xc3fcd3d76192e4007dfb496cca67e13b\0",
+];
+
+static PROOFS: [&[u8]; 2] = [
+    b"CHAP_N=bob\0CHAP_R=0xC3FCD3D76192E4007DFB496CCA67E13B\0",
+    b"CHAP_N=bob\0CHAP_R=0bw/zT12GS5AB9+0lsymfhOw==\0",
+];
+
 #[test]
 fn responses_of_the_target(rt: HostRuntime) -> Result<(), Fail> {
-    let a = rt.alloc();
-    proof_fails(
-        &rt,
-        a,
-        b"CHAP_N=bob\0CHAP_R=0xc3fcd3d76192e4007dfb496cca67e13c\0",
-    )?;
-    proof_fails(&rt, a, b"CHAP_R=0xc3fcd3d76192e4007dfb496cca67e13b\0")?;
-    proof_fails(
-        &rt,
-        a,
-        b"CHAP_N=bobo\0CHAP_R=0xc3fcd3d76192e4007dfb496cca67e13b\0",
-    )?;
-    proof_passes(
-        &rt,
-        a,
-        b"CHAP_N=bob\0CHAP_R=0xC3FCD3D76192E4007DFB496CCA67E13B\0",
-    )?;
-    proof_passes(&rt, a, b"CHAP_N=bob\0CHAP_R=0bw/zT12GS5AB9+0lsymfhOw==\0")
+    for text in &REFUSED_PROOFS {
+        proof_fails(&rt, rt.alloc(), *text)?;
+    }
+    for text in &PROOFS {
+        proof_passes(&rt, rt.alloc(), *text)?;
+    }
+    Ok(())
 }
 
-// A secret that the target refuses, CHAP where it was not offered, and a PDU that is no Login Response.
 #[test]
-fn other_refusals(rt: HostRuntime) -> Result<(), Fail> {
+fn refused_secret(rt: HostRuntime) -> Result<(), Fail> {
     let a = rt.alloc();
     let mut login = named(&rt, a, None)?;
+    let refused = response(a, 0, (2, 1), 2, NOTHING)?;
     let status = LoginFault::Status {
         class: 2,
         detail: 1,
     };
-    let refused = response(a, 0, (2, 1), 2, NOTHING)?;
     fails(&rt, &mut login, &refused, status);
+    Ok(())
+}
+
+#[test]
+fn chap_where_it_was_not_offered(rt: HostRuntime) -> Result<(), Fail> {
+    let a = rt.alloc();
     let mut login = begun(a)?;
     let chap = response(a, 0x81, (0, 0), 1, b"AuthMethod=CHAP\0")?;
     fails(&rt, &mut login, &chap, LoginFault::Auth);
+    Ok(())
+}
+
+#[test]
+fn no_login_response(rt: HostRuntime) -> Result<(), Fail> {
+    let a = rt.alloc();
     let (mut login, request) = Login::start(a, settings(a, None)?)?;
     fails(&rt, &mut login, &request, LoginFault::WrongStage);
     Ok(())
+}
+
+fn joined(rt: &impl Abort, a: Global) -> Result<Login, Fail> {
+    let mut login = offered(rt, a)?;
+    answers(rt, a, &mut login, (0xc7, 8), b"Initial", (0x04, 9), NOTHING)?;
+    let more = b"R2T=No\0MaxBurst";
+    answers(rt, a, &mut login, (0x44, 9), more, (0x04, 10), NOTHING)?;
+    let end = b"Length=512\0";
+    answers(rt, a, &mut login, (0x04, 10), end, (0x87, 11), NOTHING)?;
+    Ok(login)
 }
 
 // The text of three responses, of which the first two have the C bit, and the first one the T bit too.
 #[test]
 fn joined_text(rt: HostRuntime) -> Result<(), Fail> {
     let a = rt.alloc();
-    let mut login = offered(&rt, a)?;
-    let first = response(a, 0xc7, (0, 0), 8, b"Initial")?;
-    sends(&rt, a, &mut login, &first, (0x04, 9), NOTHING)?;
-    let second = response(a, 0x44, (0, 0), 9, b"R2T=No\0MaxBurst")?;
-    sends(&rt, a, &mut login, &second, (0x04, 10), NOTHING)?;
-    let third = response(a, 0x04, (0, 0), 10, b"Length=512\0")?;
-    sends(&rt, a, &mut login, &third, (0x87, 11), NOTHING)?;
+    let mut login = joined(&rt, a)?;
     let last = response(a, 0x87, (0, 0), 11, NOTHING)?;
     let Ok(LoginStep::Done(done)) = login.next(&last) else {
         panic!(rt; "not done");
@@ -430,8 +447,7 @@ fn done_in_32_turns(rt: HostRuntime) -> Result<(), Fail> {
     let a = rt.alloc();
     let mut login = begun(a)?;
     idles(&rt, a, &mut login, 30)?;
-    let through = response(a, 0x81, (0, 0), 1, NOTHING)?;
-    sends(&rt, a, &mut login, &through, (0x87, 2), OFFER)?;
+    answers(&rt, a, &mut login, (0x81, 1), NOTHING, (0x87, 2), OFFER)?;
     let last = response(a, 0x87, (0, 0), 2, NOTHING)?;
     assert!(rt; login.next(&last).is_ok());
     Ok(())
@@ -453,15 +469,19 @@ fn long_text(a: Global, pairs: u8, more: u8) -> Result<Vec<u8>, Fail> {
     Ok(text)
 }
 
+// A first response with this byte 1 and the long text.
+fn long_response(a: Global, flags: u8, pairs: u8, more: u8) -> Result<Pdu, Fail> {
+    let text = long_text(a, pairs, more)?;
+    response(a, flags, (0, 0), 1, text.as_slice())
+}
+
 #[test]
 fn text_of_65536_bytes(rt: HostRuntime) -> Result<(), Fail> {
     let a = rt.alloc();
     let mut login = begun(a)?;
-    let text = long_text(a, 16, 0)?;
-    let whole = response(a, 0, (0, 0), 1, &text)?;
+    let whole = long_response(a, 0, 16, 0)?;
     sends(&rt, a, &mut login, &whole, (0x81, 2), NOTHING)?;
-    let text = long_text(a, 16, 1)?;
-    let long = response(a, 0, (0, 0), 1, &text)?;
+    let long = long_response(a, 0, 16, 1)?;
     fails(&rt, &mut login, &long, LoginFault::TooManyTurns);
     Ok(())
 }
@@ -470,123 +490,130 @@ fn text_of_65536_bytes(rt: HostRuntime) -> Result<(), Fail> {
 fn joined_text_of_65537_bytes(rt: HostRuntime) -> Result<(), Fail> {
     let a = rt.alloc();
     let mut login = begun(a)?;
-    let text = long_text(a, 16, 0)?;
-    let part = response(a, 0x40, (0, 0), 1, &text)?;
+    let part = long_response(a, 0x40, 16, 0)?;
     sends(&rt, a, &mut login, &part, (0, 2), NOTHING)?;
     let more = response(a, 0x40, (0, 0), 2, b"n")?;
     fails(&rt, &mut login, &more, LoginFault::TooManyTurns);
     Ok(())
 }
 
+fn portal(a: Global, address: &[u8], port: u16) -> Result<Portal, Fail> {
+    let address = Label::from_slice(a, address)?;
+    Ok(Portal { address, port })
+}
+
 fn moves(rt: &impl Abort, a: Global, text: &[u8], address: &[u8], port: u16) -> Result<(), Fail> {
     let mut login = begun(a)?;
-    let address = Label::from_slice(a, address)?;
-    let portal = Portal { address, port };
-    fails(
-        rt,
-        &mut login,
-        &response(a, 0, (1, 2), 1, text)?,
-        LoginFault::Moved { portal },
-    );
+    let given = response(a, 0, (1, 2), 1, text)?;
+    let portal = portal(a, address, port)?;
+    fails(rt, &mut login, &given, LoginFault::Moved { portal });
     Ok(())
 }
 
 fn stays(rt: &impl Abort, a: Global, text: &[u8]) -> Result<(), Fail> {
     let mut login = begun(a)?;
+    let given = response(a, 0, (1, 2), 1, text)?;
     let status = LoginFault::Status {
         class: 1,
         detail: 2,
     };
-    fails(rt, &mut login, &response(a, 0, (1, 2), 1, text)?, status);
+    fails(rt, &mut login, &given, status);
     Ok(())
 }
+
+// Texts that name no portal.
+static STAYS: [&[u8]; 3] = [
+    NOTHING,
+    b"TargetAddress=127.0.0.1:3261",
+    b"TargetAddress=host:3261\0TargetAddress=127.0.0.1:3261\0",
+];
 
 #[test]
 fn redirections(rt: HostRuntime) -> Result<(), Fail> {
     let a = rt.alloc();
-    moves(
-        &rt,
-        a,
-        b"TargetAddress=127.0.0.1:3261,1\0",
-        b"127.0.0.1",
-        3261,
-    )?;
+    let text = b"TargetAddress=127.0.0.1:3261,1\0";
+    moves(&rt, a, text, b"127.0.0.1", 3261)?;
     let text = b"TargetAlias=t\0TargetAddress=[FE80::1]\0TargetAddress=?\0";
     moves(&rt, a, text, b"[fe80::1]", 3260)?;
-    stays(&rt, a, NOTHING)?;
-    stays(&rt, a, b"TargetAddress=127.0.0.1:3261")?;
-    stays(
-        &rt,
-        a,
-        b"TargetAddress=host:3261\0TargetAddress=127.0.0.1:3261\0",
-    )
+    for text in &STAYS {
+        stays(&rt, a, *text)?;
+    }
+    Ok(())
 }
 
 #[test]
 fn joined_redirection(rt: HostRuntime) -> Result<(), Fail> {
     let a = rt.alloc();
     let mut login = begun(a)?;
-    let part = response(a, 0x40, (0, 0), 1, b"TargetAddr")?;
-    sends(&rt, a, &mut login, &part, (0, 2), NOTHING)?;
-    let address = Label::from_slice(a, b"10.0.0.1")?;
-    let portal = Portal { address, port: 7 };
+    answers(
+        &rt,
+        a,
+        &mut login,
+        (0x40, 1),
+        b"TargetAddr",
+        (0, 2),
+        NOTHING,
+    )?;
     let moved = response(a, 0x87, (1, 1), 2, b"ess=10.0.0.1:7\0")?;
+    let portal = portal(a, b"10.0.0.1", 7)?;
     fails(&rt, &mut login, &moved, LoginFault::Moved { portal });
     Ok(())
+}
+
+fn offer_and(a: Global, more: &[u8]) -> Result<Vec<u8>, Fail> {
+    let mut text = Vec::from_slice(a, OFFER)?;
+    text.extend_from_slice(more)?;
+    Ok(text)
 }
 
 #[test]
 fn keys_not_understood(rt: HostRuntime) -> Result<(), Fail> {
     let a = rt.alloc();
+    let both = offer_and(a, b"x=NotUnderstood\0")?;
     let mut login = begun(a)?;
     let text = b"X-a=1\0TargetAlias=t\0Y=\0X-a=1\0TargetPortalGroupTag=1\0";
-    let answers = b"X-a=NotUnderstood\0Y=NotUnderstood\0X-a=NotUnderstood\0";
-    sends(
+    let answer = b"X-a=NotUnderstood\0Y=NotUnderstood\0X-a=NotUnderstood\0";
+    answers(&rt, a, &mut login, (0, 1), text, (0x81, 2), answer)?;
+    answers(
         &rt,
         a,
         &mut login,
-        &response(a, 0, (0, 0), 1, text)?,
         (0x81, 2),
-        answers,
-    )?;
-    let mut both = OFFER.to_vec(a)?;
-    both.extend_from_slice(b"x=NotUnderstood\0")?;
-    sends(
-        &rt,
-        a,
-        &mut login,
-        &response(a, 0x81, (0, 0), 2, b"x=y\0")?,
+        b"x=y\0",
         (0x87, 3),
-        &both,
+        both.as_slice(),
     )?;
-    sends(
-        &rt,
-        a,
-        &mut login,
-        &response(a, 0x04, (0, 0), 3, NOTHING)?,
-        (0x87, 4),
-        NOTHING,
-    )
+    answers(&rt, a, &mut login, (0x04, 3), NOTHING, (0x87, 4), NOTHING)
+}
+
+const DISCOVERY: &[u8] =
+    b"InitiatorName=iqn.2024-01.org.example:initiator\0SessionType=Discovery\0AuthMethod=None\0";
+
+const DISCOVERY_OFFER: &[u8] =
+    b"HeaderDigest=None\0DataDigest=None\0MaxRecvDataSegmentLength=262144\0";
+
+fn discovery(a: Global) -> Result<LoginConfig, Fail>
+    ensures { IfOk result (λ c. c.auth ≡ None) }
+{
+    let mut config = settings(a, None)?;
+    config.target = None;
+    config.isid = [0x80, 0, 0, 0, 0, 0];
+    Ok(config.copy(a)?)
 }
 
 #[test]
 fn discovery_login(rt: HostRuntime) -> Result<(), Fail> {
     let a = rt.alloc();
-    let mut config = settings(a, None)?;
-    config.target = None;
-    config.isid = [0x80, 0, 0, 0, 0, 0];
-    let config = config.copy(a)?;
-    let (mut login, request) = Login::start(a, config)?;
-    let first =
-        b"InitiatorName=iqn.2024-01.org.example:initiator\0SessionType=Discovery\0AuthMethod=None\0";
-    assert_eq!(rt; request.payload.as_slice(), first.as_slice());
-    let offer = b"HeaderDigest=None\0DataDigest=None\0MaxRecvDataSegmentLength=262144\0";
-    sends(
+    let (mut login, request) = Login::start(a, discovery(a)?)?;
+    assert_eq!(rt; request.payload.as_slice(), DISCOVERY);
+    let text = b"AuthMethod=None\0";
+    answers(
         &rt,
         a,
         &mut login,
-        &response(a, 0x81, (0, 0), 1, b"AuthMethod=None\0")?,
+        (0x81, 1),
+        text,
         (0x87, 2),
-        offer,
+        DISCOVERY_OFFER,
     )
 }
