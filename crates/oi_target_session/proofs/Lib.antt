@@ -3,6 +3,7 @@ pub mod Drains
 pub mod Executed
 pub mod Joins
 pub mod Pieces
+pub mod Room
 pub mod Wakes
 pub mod Walked
 pub mod Walks

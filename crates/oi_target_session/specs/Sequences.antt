@@ -1,13 +1,13 @@
 -- The data of a command for the initiator (RFC 7143, section 11.7): sequences of at most MaxBurstLength, each in pieces of
 -- at most the length that the initiator declared. The numbers run on over all sequences.
-use Rattle.std.specs.Prelude.{ℕ, zero, suc, ◌≤◌, ◌<◌, ◌+◌, ◌-◌, ◌%◌, ◌^◌, Bool, false, ◌||◌, List, [], ◌∷◌, length, max, min, take, drop, ◌==◌, if◌then◌else◌}
+use Rattle.std.specs.Prelude.{ℕ, zero, suc, ◌≤◌, ◌<◌, ◌+◌, ◌-◌, ◌*◌, ◌/◌, ◌%◌, ◌^◌, Bool, false, ◌||◌, List, [], ◌∷◌, length, max, min, take, drop, ◌==◌, if◌then◌else◌}
 use Rattle.oi_base.specs.Serials.{successor}
 use Rattle.oi_base.specs.declared.tag.Tag.{Tag}
 use Rattle.oi_pdu.specs.declared.codec.Pdu.{Pdu}
 use Rattle.oi_pdu.specs.declared.header.Header.{Header}
 use Rattle.oi_pdu.specs.declared.header.Header.TheVariants as head
 use Rattle.oi_recovery.specs.declared.hit.Residual.{Residual}
-use Rattle.oi_target_session.specs.Answers.{is_over, is_under, max_number, no_lun, no_tag, residual_count}
+use Rattle.oi_target_session.specs.Answers.{bytes_of, is_over, is_under, max_number, no_lun, no_tag, residual_count}
 use Rattle.oi_target_session.specs.declared.limits.Limits.{Limits}
 use Rattle.oi_target_session.specs.declared.limits.Numbers.{Numbers}
 
@@ -66,3 +66,13 @@ data_pdus l n tag r (suc most) number at [] = []
 data_pdus l n tag r (suc most) number at (x ∷ xs) =
     piece_pdu l n tag r number at (x ∷ xs)
     ∷ data_pdus l n tag r most (successor number) (at + piece_size l at (length (x ∷ xs))) (drop (piece_size l at (length (x ∷ xs))) (x ∷ xs))
+
+-- room for all pieces of so many bytes, each with a header of 48 bytes and at most three bytes of padding: all but the last
+-- one are as long as a segment may be, or end a sequence
+abbrev pub room_for : Limits → ℕ → ℕ
+room_for l size = size + (size / l.max_send + size / l.max_burst + 1) * 51
+
+-- they fit in that room
+abbrev pub RoomIsEnough : Type 0
+RoomIsEnough = (l : Limits) (n : Numbers) (tag : Tag) (r : Residual) (bytes : List ℕ) → AreLimits l
+    → length (bytes_of (data_pdus l n tag r (length bytes) 0 0 bytes)) ≤ room_for l (length bytes)

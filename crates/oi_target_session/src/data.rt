@@ -1,7 +1,7 @@
 ghost use Rattle.std.specs.Prelude.{◌≡◌, ◌++◌, ◌≤◌, ◌<◌, ◌+◌, ◌^◌, IfOk, OnErr, OnOk, drop, length};
 ghost use Rattle.oi_target_login.specs.Grown.{IsGrown};
 ghost use Rattle.oi_target_session.specs.Answers.{bytes_of};
-ghost use Rattle.oi_target_session.specs.Sequences.{AreLimits, data_pdus, piece_head, piece_size};
+ghost use Rattle.oi_target_session.specs.Sequences.{AreLimits, data_pdus, piece_head, piece_size, room_for};
 
 use crate::answers::{NO_LUN, NO_TAG, is_over, is_under, residual_count};
 use crate::limits::{Limits, Numbers};
@@ -63,15 +63,15 @@ fn piece_head(source: Source, number: u32, at: u32, left: usize) -> Header
     })
 }
 
-// Room for all pieces of so many bytes: each has a header and at most three bytes of padding, and all but the last one
-// are as long as a segment may be or end a sequence.
+// Room for the Data-In PDUs of so many bytes.
 fn room_for(limits: Limits, size: usize) -> usize
-    ensures { size ≤ result }
+    requires limits { AreLimits limits }
+    requires most { size < 2 ^ 32 }
+    ensures { result ≡ room_for limits size }
 {
-    let segments = size / (limits.max_send as usize).max(1);
-    let sequences = size / (limits.max_burst as usize).max(1);
-    let pieces = segments.saturating_add(sequences).saturating_add(1);
-    size.saturating_add(pieces.saturating_mul(51))
+    let segments = size / limits.max_send as usize;
+    let sequences = size / limits.max_burst as usize;
+    size + (segments + sequences + 1) * 51
 }
 
 /// Appends the Data-In PDUs of a command that succeeded. Room is made for all of them first, so that no data are moved

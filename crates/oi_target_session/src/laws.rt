@@ -1,6 +1,7 @@
 ghost use Rattle.oi_target_session.specs.Executions.{RepliesAreSent, RunsExecute};
 ghost use Rattle.oi_target_session.specs.Owing.{WokenInOrder};
 ghost use Rattle.oi_target_session.specs.Runs.{RepliesInOrder, RunsJoin, UnitsInOrder};
+ghost use Rattle.oi_target_session.specs.Sequences.{RoomIsEnough};
 
 /// What becomes of PDUs depends on them and their order alone: those that came in two parts come to the same as in one.
 #[tactic(auto, using(crate::proofs::Joins::runs_join))]
@@ -18,4 +19,10 @@ pub fn execution_is_sequential()
     ensures replies { RepliesInOrder }
     ensures sent { RepliesAreSent }
     ensures woken { WokenInOrder }
+{}
+
+/// Room is made once for all Data-In PDUs of a command, and holds them.
+#[tactic(auto, using(crate::proofs::Room::room_is_enough))]
+pub fn data_fit_their_room()
+    ensures { RoomIsEnough }
 {}

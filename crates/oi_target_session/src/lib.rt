@@ -17,7 +17,7 @@ mod text;
 
 pub use arrive::{receive, receive_all};
 pub use fed::Fed;
-pub use laws::{execution_is_sequential, parts_come_to_the_whole};
+pub use laws::{data_fit_their_room, execution_is_sequential, parts_come_to_the_whole};
 pub use limits::{Limits, Numbers};
 pub use owed::Owed;
 pub use reset::Reset;
