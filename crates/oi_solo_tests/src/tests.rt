@@ -102,26 +102,74 @@ fn issued(id: u64, generation: u64, tag: u32, cmdsn: u32) -> Transmit {
     })
 }
 
+// The next turn of the connection ends so.
+fn turns(
+    rt: &impl Abort,
+    session: &mut Solo,
+    generation: u64,
+    out: &mut Vec<u8>,
+    wanted: Transmit,
+) -> Result<(), Fail> {
+    assert_eq!(rt; session.transmit_next(generation, out)?, wanted);
+    Ok(())
+}
+
+// What becomes of the reply on the first connection.
+fn hears(rt: &impl Abort, alloc: Global, session: &mut Solo, wanted: Received) -> Result<(), Fail> {
+    let reply = capacity_reply(alloc)?;
+    assert_eq!(rt; session.receive(1, reply)?, wanted);
+    Ok(())
+}
+
+fn loses(
+    rt: &impl Abort,
+    session: &mut Solo,
+    cause: LostCause,
+    wanted: LostDone,
+) -> Result<(), Fail> {
+    assert_eq!(rt; session.lost(1, cause)?, wanted);
+    Ok(())
+}
+
+// The only outcome is that of the first request.
+fn delivers(
+    rt: &impl Abort,
+    alloc: Global,
+    session: &mut Solo,
+    outcome: Outcome,
+) -> Result<(), Fail> {
+    let mut outcomes = Vec::new(alloc);
+    assert_eq!(rt; session.deliver(&mut outcomes)?, 1);
+    assert!(rt; outcomes.first() == Some(&Delivered { id: 0, outcome }));
+    Ok(())
+}
+
+fn answered(alloc: Global) -> Result<Outcome, Fail> {
+    Ok(Outcome::Answered {
+        status: 0,
+        residual: Residual::Exact,
+        sense: Blob::new(alloc),
+        got: Blob::from_slice(alloc, &CAPACITY_DATA)?,
+    })
+}
+
 #[test]
 fn capacity_is_read(rt: HostRuntime) -> Result<(), Fail> {
     let mut session = started(rt.alloc())?;
     let mut out = Vec::new(rt.alloc());
-    assert_eq!(rt; session.transmit_next(1, &mut out)?, issued(0, 1, 0, 1));
+    turns(&rt, &mut session, 1, &mut out, issued(0, 1, 0, 1))?;
     assert!(rt; out.as_slice() == CAPACITY_COMMAND.as_slice());
-    assert_eq!(rt; session.transmit_next(1, &mut out)?, Transmit::Idle);
-    assert_eq!(rt;
-        session.receive(1, capacity_reply(rt.alloc())?)?,
-        Received::Applied
-    );
-    let mut outcomes = Vec::new(rt.alloc());
-    assert_eq!(rt; session.deliver(&mut outcomes)?, 1);
-    let outcome = Outcome::Answered {
-        status: 0,
-        residual: Residual::Exact,
-        sense: Blob::new(rt.alloc()),
-        got: Blob::from_slice(rt.alloc(), &CAPACITY_DATA)?,
-    };
-    assert!(rt; outcomes.first() == Some(&Delivered { id: 0, outcome }));
+    turns(&rt, &mut session, 1, &mut out, Transmit::Idle)?;
+    hears(&rt, rt.alloc(), &mut session, Received::Applied)?;
+    let outcome = answered(rt.alloc())?;
+    delivers(&rt, rt.alloc(), &mut session, outcome)
+}
+
+// A session whose first connection was cut after it sent the command, and that has a second one.
+fn again(rt: &impl Abort, session: &mut Solo, out: &mut Vec<u8>) -> Result<(), Fail> {
+    session.transmit_next(1, out)?;
+    loses(rt, session, LostCause::Cut, LostDone::Lost)?;
+    assert_eq!(rt; session.logged_in(login(32))?, 2);
     Ok(())
 }
 
@@ -130,23 +178,13 @@ fn capacity_is_read(rt: HostRuntime) -> Result<(), Fail> {
 fn old_connection_is_stale(rt: HostRuntime) -> Result<(), Fail> {
     let mut session = started(rt.alloc())?;
     let mut out = Vec::new(rt.alloc());
-    session.transmit_next(1, &mut out)?;
-    assert_eq!(rt; session.lost(1, LostCause::Cut)?, LostDone::Lost);
-    assert_eq!(rt; session.logged_in(login(32))?, 2);
-    assert_eq!(rt;
-        session.receive(1, capacity_reply(rt.alloc())?)?,
-        Received::Stale { current: 2 }
-    );
+    again(&rt, &mut session, &mut out)?;
+    let current = 2;
+    hears(&rt, rt.alloc(), &mut session, Received::Stale { current })?;
     assert_eq!(rt; session.pending(), 1);
-    assert_eq!(rt;
-        session.transmit_next(1, &mut out)?,
-        Transmit::Changed { current: 2 }
-    );
-    assert_eq!(rt;
-        session.transmit_next(2, &mut out)?,
-        issued(0, 2, 0x1000_0000, 1)
-    );
-    Ok(())
+    let changed = Transmit::Changed { current };
+    turns(&rt, &mut session, 1, &mut out, changed)?;
+    turns(&rt, &mut session, 2, &mut out, issued(0, 2, 0x1000_0000, 1))
 }
 
 fn write(alloc: Global) -> Result<Request, Fail>
@@ -199,7 +237,7 @@ fn data_are_solicited(rt: HostRuntime) -> Result<(), Fail> {
         length: 512,
         last: true,
     };
-    assert_eq!(rt; session.transmit_next(1, &mut out)?, Transmit::Sent(push));
+    turns(&rt, &mut session, 1, &mut out, Transmit::Sent(push))?;
     assert_eq!(rt; out.len(), 560);
     Ok(())
 }
@@ -212,9 +250,18 @@ fn window_closes(rt: HostRuntime) -> Result<(), Fail> {
     session.submit(capacity())?;
     session.logged_in(login(1))?;
     let mut out = Vec::new(rt.alloc());
-    assert_eq!(rt; session.transmit_next(1, &mut out)?, issued(0, 1, 0, 1));
-    assert_eq!(rt; session.transmit_next(1, &mut out)?, Transmit::Idle);
-    Ok(())
+    turns(&rt, &mut session, 1, &mut out, issued(0, 1, 0, 1))?;
+    turns(&rt, &mut session, 1, &mut out, Transmit::Idle)
+}
+
+fn ping_is_late(rt: &impl Abort, session: &mut Solo) -> Result<(), Fail> {
+    loses(rt, session, LostCause::Ping, LostDone::NotSo)?;
+    let late = Ticked {
+        ping: true,
+        handler: false,
+    };
+    assert_eq!(rt; session.tick(10_000)?, late);
+    loses(rt, session, LostCause::Ping, LostDone::Lost)
 }
 
 #[test]
@@ -229,15 +276,13 @@ fn pings_are_timed(rt: HostRuntime) -> Result<(), Fail> {
         ttt: u32::MAX,
         lun: [0; 8],
     };
-    assert_eq!(rt; session.transmit_next(1, &mut out)?, Transmit::Sent(ping));
-    assert_eq!(rt; session.lost(1, LostCause::Ping)?, LostDone::NotSo);
-    let late = Ticked {
-        ping: true,
-        handler: false,
-    };
-    assert_eq!(rt; session.tick(10_000)?, late);
-    assert_eq!(rt; session.lost(1, LostCause::Ping)?, LostDone::Lost);
-    Ok(())
+    turns(&rt, &mut session, 1, &mut out, Transmit::Sent(ping))?;
+    ping_is_late(&rt, &mut session)
+}
+
+fn refuses_controls(rt: &impl Abort, session: &mut Solo, refused: ControlRefused) {
+    assert_eq!(rt; session.reset_lun(0), Err(refused));
+    assert_eq!(rt; session.leave(), Err(refused));
 }
 
 #[test]
@@ -245,24 +290,27 @@ fn refusals_without_a_connection(rt: HostRuntime) -> Result<(), Fail> {
     let mut session = Solo::new(rt.alloc(), config())?;
     let mut out = Vec::new(rt.alloc());
     let phase = Phase::First;
-    assert_eq!(rt;
-        session.transmit_next(1, &mut out)?,
-        Transmit::NotLoggedIn { phase }
-    );
-    assert_eq!(rt;
-        session.lost(1, LostCause::Cut)?,
-        LostDone::Stale { current: 0 }
-    );
-    assert_eq!(rt;
-        session.abort(0),
-        Err(AbortRefused::Unknown { submitted: 0 })
-    );
-    assert_eq!(rt;
-        session.reset_lun(0),
-        Err(ControlRefused::NotLoggedIn { phase })
-    );
-    assert_eq!(rt; session.leave(), Err(ControlRefused::NotLoggedIn { phase }));
+    turns(
+        &rt,
+        &mut session,
+        1,
+        &mut out,
+        Transmit::NotLoggedIn { phase },
+    )?;
+    let stale = LostDone::Stale { current: 0 };
+    loses(&rt, &mut session, LostCause::Cut, stale)?;
+    let unknown = AbortRefused::Unknown { submitted: 0 };
+    assert_eq!(rt; session.abort(0), Err(unknown));
+    refuses_controls(&rt, &mut session, ControlRefused::NotLoggedIn { phase });
     Ok(())
+}
+
+fn refuses_while(rt: &impl Abort, session: &mut Solo, running: Handler) {
+    let logged_in = LoginRefused::LoggedIn { current: 1 };
+    assert_eq!(rt; session.logged_in(login(32)), Err(logged_in));
+    assert_eq!(rt; session.abort(0), Err(AbortRefused::Busy { running }));
+    let busy = ControlRefused::Busy { running };
+    assert_eq!(rt; session.reset_target(), Err(busy));
 }
 
 #[test]
@@ -276,52 +324,42 @@ fn refusals_on_a_connection(rt: HostRuntime) -> Result<(), Fail> {
         tag: None,
         since: 0,
     };
-    assert_eq!(rt;
-        session.logged_in(login(32)),
-        Err(LoginRefused::LoggedIn { current: 1 })
-    );
-    assert_eq!(rt; session.abort(0), Err(AbortRefused::Busy { running }));
-    assert_eq!(rt;
-        session.reset_target(),
-        Err(ControlRefused::Busy { running })
-    );
+    refuses_while(&rt, &mut session, running);
     let abort = Event::Manage {
         generation: 1,
         tag: Tag(0x0800_0000),
         function: 1,
         subject: Subject::Task(0),
     };
-    assert_eq!(rt; session.transmit_next(1, &mut out)?, Transmit::Sent(abort));
-    Ok(())
+    turns(&rt, &mut session, 1, &mut out, Transmit::Sent(abort))
+}
+
+fn refuses_behind_the_end(rt: &impl Abort, session: &mut Solo, cause: End) {
+    let again = AlreadyEnded { cause };
+    assert_eq!(rt; session.terminate(End::InputEnd), Err(again));
+    let submit = SubmitRefused::Ended { cause };
+    assert_eq!(rt; session.submit(capacity()), Err(submit));
+    let logged_in = LoginRefused::Ended { cause };
+    assert_eq!(rt; session.logged_in(login(32)), Err(logged_in));
+    assert_eq!(rt; session.abort(0), Err(AbortRefused::TooLate { at: 2 }));
+}
+
+// The run of one request that was answered so, with four entries.
+fn tells_outcome(rt: &impl Abort, run: &Run) {
+    assert_eq!(rt; (run.events().len(), run.submitted()), (4, 1));
+    let outcome = Outcome::Host(HostCode::NoConnect);
+    assert!(rt; run.outcome(0) == Some(&outcome));
+    assert!(rt; run.outcome(1).is_none());
 }
 
 #[test]
 fn refusals_behind_the_end(rt: HostRuntime) -> Result<(), Fail> {
     let mut session = started(rt.alloc())?;
-    let cause = End::Asked;
-    assert_eq!(rt; session.terminate(cause), Ok(()));
-    assert_eq!(rt;
-        session.terminate(End::InputEnd),
-        Err(AlreadyEnded { cause })
-    );
-    assert_eq!(rt;
-        session.submit(capacity()),
-        Err(SubmitRefused::Ended { cause })
-    );
-    assert_eq!(rt;
-        session.logged_in(login(32)),
-        Err(LoginRefused::Ended { cause })
-    );
-    assert_eq!(rt; session.abort(0), Err(AbortRefused::TooLate { at: 2 }));
-    let mut outcomes = Vec::new(rt.alloc());
-    assert_eq!(rt; session.deliver(&mut outcomes)?, 1);
+    assert_eq!(rt; session.terminate(End::Asked), Ok(()));
+    refuses_behind_the_end(&rt, &mut session, End::Asked);
     let outcome = Outcome::Host(HostCode::NoConnect);
-    assert!(rt; outcomes.first() == Some(&Delivered { id: 0, outcome }));
-    let run = session.close();
-    assert_eq!(rt; (run.events().len(), run.submitted()), (4, 1));
-    let outcome = Outcome::Host(HostCode::NoConnect);
-    assert!(rt; run.outcome(0) == Some(&outcome));
-    assert!(rt; run.outcome(1).is_none());
+    delivers(&rt, rt.alloc(), &mut session, outcome)?;
+    tells_outcome(&rt, &session.close());
     Ok(())
 }
 
