@@ -197,16 +197,33 @@ fn serving(alloc: Global) -> Result<Bench, Fail> {
     Ok(bench)
 }
 
-// A login, one command, and the same command again, in pieces of this size.
-fn answers_capacity(rt: &impl Abort, a: Global, size: usize) -> Result<(), Fail> {
-    let mut bench = Bench::new(a, size)?;
+// A test makes a bench and lends it to a function: a `?` in that has no bench to drop, which is most of a proof where there are many.
+
+// A Login Request is answered so.
+fn asks(bench: &mut Bench, rt: &impl Abort, asked: &[u8], wanted: &str) -> Result<(), Fail> {
+    let sent = hex::encode(bench.alloc, asked)?;
+    bench.goes_on(rt, 1, sent.as_str(), wanted)
+}
+
+// A login, one command, and the same command again.
+fn capacity(bench: &mut Bench, rt: &impl Abort) -> Result<(), Fail> {
+    let a = bench.alloc;
     bench.target.connected(1)?;
-    let sent = hex::encode(a, request(a, 0x81, 1, FIRST)?.as_slice())?;
-    bench.goes_on(rt, 1, sent.as_str(), LOGIN)?;
-    let sent = hex::encode(a, request(a, 0x87, 1, NOTHING)?.as_slice())?;
-    bench.goes_on(rt, 1, sent.as_str(), LOGGED_IN)?;
+    asks(bench, rt, request(a, 0x81, 1, FIRST)?.as_slice(), LOGIN)?;
+    asks(
+        bench,
+        rt,
+        request(a, 0x87, 1, NOTHING)?.as_slice(),
+        LOGGED_IN,
+    )?;
     bench.goes_on(rt, 1, CAPACITY, BLOCKS)?;
     bench.answers(rt, 1, (CAPACITY, 0), (Fed::Closed, ""))
+}
+
+// In pieces of this size.
+fn answers_capacity(rt: &impl Abort, a: Global, size: usize) -> Result<(), Fail> {
+    let mut bench = Bench::new(a, size)?;
+    capacity(&mut bench, rt)
 }
 
 #[test]
@@ -217,55 +234,63 @@ fn target_answers_capacity(rt: HostRuntime) -> Result<(), Fail> {
     Ok(())
 }
 
-// 300,032 bytes: the target asks for 262,144 bytes, and for the rest. The last sector is read back, with the one behind it.
-#[test]
-fn a_write_by_two_asks(rt: HostRuntime) -> Result<(), Fail> {
-    let a = rt.alloc();
-    let mut bench = serving(a)?;
-    bench.goes_on(&rt, 1, WRITE, ASKED)?;
-    for (sent, size, wanted) in [
-        (
-            "058000000001000000000000000000000000000500000001000000000000000300000000000000000000000000000000",
-            65536,
-            "",
-        ),
-        (
-            "058000000001000000000000000000000000000500000001000000000000000300000000000000000001000000000000",
-            65536,
-            "",
-        ),
-        (
-            "058000000001000000000000000000000000000500000001000000000000000300000000000000000002000000000000",
-            65536,
-            "",
-        ),
-        (
-            "058000000001000000000000000000000000000500000001000000000000000300000000000000000003000000000000",
-            65536,
-            "318000000000000000000000000000000000000500000002000000030000000200000021000000010004000000009400",
-        ),
-        (
-            "058000000000940000000000000000000000000500000002000000000000000300000000000000000004000000000000",
-            37888,
-            "218000000000000000000000000000000000000500000000000000030000000200000021000000000000000000000000",
-        ),
-    ] {
-        bench.answers(&rt, 1, (sent, size), (Fed::Going, wanted))?;
+// Data-Out for the write, each with so many bytes, and what the last one of a sequence is answered.
+const DATA: [(&str, usize, &str); 5] = [
+    (
+        "058000000001000000000000000000000000000500000001000000000000000300000000000000000000000000000000",
+        65536,
+        "",
+    ),
+    (
+        "058000000001000000000000000000000000000500000001000000000000000300000000000000000001000000000000",
+        65536,
+        "",
+    ),
+    (
+        "058000000001000000000000000000000000000500000001000000000000000300000000000000000002000000000000",
+        65536,
+        "",
+    ),
+    (
+        "058000000001000000000000000000000000000500000001000000000000000300000000000000000003000000000000",
+        65536,
+        "318000000000000000000000000000000000000500000002000000030000000200000021000000010004000000009400",
+    ),
+    (
+        "058000000000940000000000000000000000000500000002000000000000000300000000000000000004000000000000",
+        37888,
+        "218000000000000000000000000000000000000500000000000000030000000200000021000000000000000000000000",
+    ),
+];
+
+fn write_by_two_asks(bench: &mut Bench, rt: &impl Abort) -> Result<(), Fail> {
+    bench.goes_on(rt, 1, WRITE, ASKED)?;
+    for (sent, size, wanted) in DATA {
+        bench.answers(rt, 1, (sent, size), (Fed::Going, wanted))?;
     }
-    let bytes = hex::decode(a, READ_BACK)?;
+    Ok(())
+}
+
+// The last sector is read back, with the one behind it.
+fn read_back(bench: &mut Bench, rt: &impl Abort) -> Result<(), Fail> {
+    let bytes = hex::decode(bench.alloc, READ_BACK)?;
     assert_eq!(rt; bench.meets(1, &bytes)?, Fed::Going);
-    let mut sectors = vec![in a; 0x5a; 512]?;
+    let mut sectors = vec![in bench.alloc; 0x5a; 512]?;
     sectors.extend_from_slice(&[0; 512])?;
     assert!(rt; bench.out.ends_with(sectors.as_slice()));
     Ok(())
 }
 
-// 307,200 bytes in five pieces: the fourth one ends the first sequence, the fifth one the command.
+// 300,032 bytes: the target asks for 262,144 bytes, and for the rest.
 #[test]
-fn a_read_of_two_sequences(rt: HostRuntime) -> Result<(), Fail> {
-    let a = rt.alloc();
-    let mut bench = serving(a)?;
-    let bytes = hex::decode(a, READ)?;
+fn a_write_by_two_asks(rt: HostRuntime) -> Result<(), Fail> {
+    let mut bench = serving(rt.alloc())?;
+    write_by_two_asks(&mut bench, &rt)?;
+    read_back(&mut bench, &rt)
+}
+
+fn read_of_two_sequences(bench: &mut Bench, rt: &impl Abort) -> Result<(), Fail> {
+    let bytes = hex::decode(bench.alloc, READ)?;
     assert_eq!(rt; bench.meets(1, &bytes)?, Fed::Going);
     assert_eq!(rt; bench.out.len(), 307_200 + 5 * 48);
     let heads = [
@@ -276,16 +301,20 @@ fn a_read_of_two_sequences(rt: HostRuntime) -> Result<(), Fail> {
         "258100000000b000000000000000000000000005ffffffff000000030000000200000021000000040004000000000000",
     ];
     for (piece, head) in bench.out.chunks(65_584).zip(heads) {
-        let head = hex::decode(a, head)?;
+        let head = hex::decode(bench.alloc, head)?;
         assert!(rt; piece.starts_with(head.as_slice()));
     }
     Ok(())
 }
 
-// A write that waits for data is aborted; the command behind it is executed then. A second abort finds no task.
+// 307,200 bytes in five pieces: the fourth one ends the first sequence, the fifth one the command.
 #[test]
-fn an_aborted_write(rt: HostRuntime) -> Result<(), Fail> {
+fn a_read_of_two_sequences(rt: HostRuntime) -> Result<(), Fail> {
     let mut bench = serving(rt.alloc())?;
+    read_of_two_sequences(&mut bench, &rt)
+}
+
+fn aborted_write(bench: &mut Bench, rt: &impl Abort) -> Result<(), Fail> {
     for (sent, wanted) in [
         (WRITE, ASKED),
         (LATER_CAPACITY, ""),
@@ -298,78 +327,111 @@ fn an_aborted_write(rt: HostRuntime) -> Result<(), Fail> {
             "228001000000000000000000000000000000000900000000000000050000000300000022000000000000000000000000",
         ),
     ] {
-        bench.goes_on(&rt, 1, sent, wanted)?;
+        bench.goes_on(rt, 1, sent, wanted)?;
     }
     Ok(())
+}
+
+// A write that waits for data is aborted; the command behind it is executed then. A second abort finds no task.
+#[test]
+fn an_aborted_write(rt: HostRuntime) -> Result<(), Fail> {
+    let mut bench = serving(rt.alloc())?;
+    aborted_write(&mut bench, &rt)
+}
+
+fn second_login(
+    bench: &mut Bench,
+    rt: &impl Abort,
+    isid: u8,
+    wanted: (Fed, &str),
+) -> Result<(), Fail> {
+    bench.logs_in(2, isid, FIRST)?;
+    bench.goes_on(rt, 1, "", "")?;
+    bench.answers(rt, 1, (CAPACITY, 0), wanted)?;
+    bench.target.gone(1);
+    bench.goes_on(rt, 2, CAPACITY, BLOCKS)
 }
 
 // The next byte on the connection of the old session closes it, and has no other effect.
 #[test]
 fn a_second_login_of_one_initiator_port(rt: HostRuntime) -> Result<(), Fail> {
-    for (isid, fed, wanted) in [(1, Fed::Closed, ""), (2, Fed::Going, BLOCKS)] {
-        let mut bench = serving(rt.alloc())?;
-        bench.logs_in(2, isid, FIRST)?;
-        bench.goes_on(&rt, 1, "", "")?;
-        bench.answers(&rt, 1, (CAPACITY, 0), (fed, wanted))?;
-        bench.target.gone(1);
-        bench.goes_on(&rt, 2, CAPACITY, BLOCKS)?;
-    }
-    Ok(())
+    let mut bench = serving(rt.alloc())?;
+    second_login(&mut bench, &rt, 1, (Fed::Closed, ""))
+}
+
+#[test]
+fn a_second_login_of_another_port(rt: HostRuntime) -> Result<(), Fail> {
+    let mut bench = serving(rt.alloc())?;
+    second_login(&mut bench, &rt, 2, (Fed::Going, BLOCKS))
+}
+
+fn reset_of_all(bench: &mut Bench, rt: &impl Abort) -> Result<(), Fail> {
+    bench.logs_in(2, 2, FIRST)?;
+    bench.goes_on(rt, 1, WRITE, ASKED)?;
+    bench.goes_on(rt, 2, RESET, WAS_RESET)?;
+    bench.goes_on(rt, 1, LATER_CAPACITY, LATER_BLOCKS)
 }
 
 // A reset by one session ends the tasks of the others.
 #[test]
 fn a_reset_ends_tasks_of_all_sessions(rt: HostRuntime) -> Result<(), Fail> {
     let mut bench = serving(rt.alloc())?;
-    bench.logs_in(2, 2, FIRST)?;
-    bench.goes_on(&rt, 1, WRITE, ASKED)?;
-    bench.goes_on(&rt, 2, RESET, WAS_RESET)?;
-    bench.goes_on(&rt, 1, LATER_CAPACITY, LATER_BLOCKS)
+    reset_of_all(&mut bench, &rt)
 }
 
-// A write to another unit that stood behind one that a reset ended is executed at once, so that the session of the reset reads its
-// data. What it is answered goes out before the answer to the next PDU.
-#[test]
-fn a_command_behind_a_reset(rt: HostRuntime) -> Result<(), Fail> {
-    let a = rt.alloc();
-    let mut bench = serving(a)?;
+fn command_behind_a_reset(bench: &mut Bench, rt: &impl Abort) -> Result<(), Fail> {
     bench.logs_in(2, 2, FIRST)?;
-    bench.goes_on(&rt, 1, WRITE, ASKED)?;
-    bench.answers(&rt, 1, (OTHER_WRITE, 512), (Fed::Going, ""))?;
-    bench.goes_on(&rt, 2, UNIT_RESET, WAS_RESET)?;
-    let bytes = hex::decode(a, OTHER_READ)?;
+    bench.goes_on(rt, 1, WRITE, ASKED)?;
+    bench.answers(rt, 1, (OTHER_WRITE, 512), (Fed::Going, ""))?;
+    bench.goes_on(rt, 2, UNIT_RESET, WAS_RESET)?;
+    let bytes = hex::decode(bench.alloc, OTHER_READ)?;
     assert_eq!(rt; bench.meets(2, &bytes)?, Fed::Going);
-    assert!(rt; bench.out.ends_with(vec![in a; 0x5a; 512]?.as_slice()));
+    assert!(rt;
+        bench
+            .out
+            .ends_with(vec![in bench.alloc; 0x5a; 512]?.as_slice())
+    );
     bench.goes_on(
-        &rt,
+        rt,
         1,
         "01c100000000000000000000000000000000000700000008000000030000000325000000000000000000000000000000",
         "2180000000000000000000000000000000000006000000000000000300000003000000220000000000000000000000002581000000000008000000000000000000000007ffffffff000000040000000400000023000000000000000000000000000003ff00000200",
     )
 }
 
-// Two targets with one address each are listed, and none after the listing was replaced. A command closes a discovery.
+// A write to another unit that stood behind one that a reset ended is executed at once, so that the session of the reset reads its
+// data. What it is answered goes out before the answer to the next PDU.
 #[test]
-fn a_discovery(rt: HostRuntime) -> Result<(), Fail> {
-    let a = rt.alloc();
-    let mut bench = Bench::new(a, 1000)?;
+fn a_command_behind_a_reset(rt: HostRuntime) -> Result<(), Fail> {
+    let mut bench = serving(rt.alloc())?;
+    command_behind_a_reset(&mut bench, &rt)
+}
+
+fn discovery(bench: &mut Bench, rt: &impl Abort) -> Result<(), Fail> {
     bench.logs_in(1, 0, DISCOVERY)?;
     bench.goes_on(
-        &rt,
+        rt,
         1,
         "0480000000000010000000000000000000000001ffffffff00000001000000030000000000000000000000000000000053656e64546172676574733d416c6c00",
         "248000000000008a000000000000000000000001ffffffff0000000300000002000000210000000000000000000000005461726765744e616d653d69716e2e323032342d30312e6f72672e6578616d706c653a643100546172676574416464726573733d3132372e302e302e313a333236302c31005461726765744e616d653d69716e2e323032342d30312e6f72672e6578616d706c653a643200546172676574416464726573733d3132372e302e302e313a333236302c31000000",
     )?;
-    bench.target.list(Series::new(a));
+    bench.target.list(Series::new(bench.alloc));
     bench.goes_on(
-        &rt,
+        rt,
         1,
         "0480000000000010000000000000000000000001ffffffff00000002000000030000000000000000000000000000000053656e64546172676574733d416c6c00",
         "2480000000000000000000000000000000000001ffffffff000000040000000300000022000000000000000000000000",
     )?;
     let command =
         "01c100000000000000000000000000000000000000000008000000030000000325000000000000000000000000000000";
-    bench.answers(&rt, 1, (command, 0), (Fed::Closed, ""))
+    bench.answers(rt, 1, (command, 0), (Fed::Closed, ""))
+}
+
+// Two targets with one address each are listed, and none after the listing was replaced. A command closes a discovery.
+#[test]
+fn a_discovery(rt: HostRuntime) -> Result<(), Fail> {
+    let mut bench = Bench::new(rt.alloc(), 1000)?;
+    discovery(&mut bench, &rt)
 }
 
 // What comes while connection 1 has a write of 300,032 bytes under tag 5 that waits for the data of its first R2T, connection
@@ -581,14 +643,34 @@ const HOSTILE: [(u32, (&str, usize), (Fed, &str)); 22] = [
     ),
 ];
 
+fn hostile(
+    bench: &mut Bench,
+    rt: &impl Abort,
+    connection: u32,
+    sent: (&str, usize),
+    wanted: (Fed, &str),
+) -> Result<(), Fail> {
+    bench.goes_on(rt, 1, WRITE, ASKED)?;
+    bench.logs_in(2, 0, DISCOVERY)?;
+    bench.target.connected(3)?;
+    bench.answers(rt, connection, sent, wanted)
+}
+
+fn hostile_input(
+    rt: &impl Abort,
+    a: Global,
+    connection: u32,
+    sent: (&str, usize),
+    wanted: (Fed, &str),
+) -> Result<(), Fail> {
+    let mut bench = serving(a)?;
+    hostile(&mut bench, rt, connection, sent, wanted)
+}
+
 #[test]
 fn hostile_inputs(rt: HostRuntime) -> Result<(), Fail> {
     for (connection, sent, wanted) in HOSTILE {
-        let mut bench = serving(rt.alloc())?;
-        bench.goes_on(&rt, 1, WRITE, ASKED)?;
-        bench.logs_in(2, 0, DISCOVERY)?;
-        bench.target.connected(3)?;
-        bench.answers(&rt, connection, sent, wanted)?;
+        hostile_input(&rt, rt.alloc(), connection, sent, wanted)?;
     }
     Ok(())
 }
