@@ -1,13 +1,14 @@
 -- What the words come to before the run is ended: all is done, or why it stopped.
-use Rattle.std.specs.Prelude.{◌≡◌, ◌⊎◌, ℕ, List, [], Option, Some, Result, Ok, Err}
+use Rattle.std.specs.Prelude.{◌≡◌, ◌⊎◌, ℕ, true, List, [], Option, Some, Result, Ok, Err}
 use Rattle.oi_base.specs.Counts.{Rose}
 use Rattle.oi_outside.specs.Records.{Records}
 use Rattle.oi_outside.specs.Streams.{IsFront, behind}
+use Rattle.oi_outside.specs.declared.failed.Failed.{Failed}
 use Rattle.oi_tool.specs.declared.stop.Stop.{Stop}
 use Rattle.oi_tool.specs.declared.stop.Stop.TheVariants.{Words, Nothing, InUse, Store, Sink, Memory}
 use Rattle.oi_tool.specs.Asking.{AreRefused}
 use Rattle.oi_tool.specs.Outcomes.{Outcome, after, refused}
-use Rattle.oi_tool.specs.Runs.{IsBegun, IsPart, IsRun}
+use Rattle.oi_tool.specs.Runs.{IsBegun, IsPart, IsRun, is_mild}
 use Rattle.oi_tool.specs.Stops.{status_of, stop_text}
 
 -- the outcome of a run that stopped so
@@ -69,9 +70,13 @@ pub record IsDone (status : ℕ) (held0 held : Option (List ℕ)) (sink0 sink : 
   pub held_is : held ≡ held0
   pub flushed : IsFlushed status sink0 sink
 
+-- its own status, or that of a sink that failed in place of one that is not fatal
+abbrev pub IsShown : ℕ → ℕ → ℕ → ℕ → Type 0
+IsShown own status sink0 sink = ((status ≡ own) × (is_mild own ≡ true → sink ≡ sink0)) ⊎ ((status ≡ 31) × (is_mild own ≡ true) × Rose sink0 sink)
+
 -- the status of a run that stopped; want of memory for its last text is one of its own
-abbrev pub IsEnding : Stop → ℕ → Type 0
-IsEnding stop status = ((status ≡ 3) × (stop ≡ Sink → ⊥)) ⊎ (status ≡ status_of stop)
+abbrev pub IsEnding : Stop → ℕ → ℕ → ℕ → Type 0
+IsEnding stop status sink0 sink = ((status ≡ 3) × (stop ≡ Sink → ⊥)) ⊎ IsShown (status_of stop) status sink0 sink
 
 -- the count rose, or is as it was
 abbrev pub IsSteady : ℕ → ℕ → Type 0
@@ -79,13 +84,13 @@ IsSteady before now = (now ≡ before) ⊎ Rose before now
 
 -- a run that stopped was ended with its last text
 pub record IsStopped (stop : Stop) (status : ℕ) (held0 held : Option (List ℕ)) (sink0 sink : ℕ) : Type 0 where
-  pub status_is : IsEnding stop status
+  pub status_is : IsEnding stop status sink0 sink
   pub front : IsFront (stop_text stop) held0 held
   pub whole : (Rose sink0 sink → ⊥) → (status ≡ 3 → ⊥) → held ≡ behind held0 (stop_text stop)
+  pub mild : is_mild status ≡ true → held ≡ behind held0 (stop_text stop)
   pub count : IsSteady sink0 sink
 
--- a last text was written and flushed
-pub record IsLast (text : List ℕ) (held0 held : Option (List ℕ)) (sink0 sink : ℕ) : Type 0 where
-  pub front : IsFront text held0 held
-  pub whole : (Rose sink0 sink → ⊥) → held ≡ behind held0 text
-  pub count : IsSteady sink0 sink
+-- a last text was written and flushed, or the sink failed
+abbrev pub IsLast : Result (Unit {0}) Failed → List ℕ → Option (List ℕ) → Option (List ℕ) → ℕ → ℕ → Type 0
+IsLast (Ok u) text held0 held sink0 sink = (held ≡ behind held0 text) × (sink ≡ sink0)
+IsLast (Err e) text held0 held sink0 sink = IsFront text held0 held × Rose sink0 sink

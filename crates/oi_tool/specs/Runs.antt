@@ -1,5 +1,5 @@
 -- A run of the tool: what the words and the stored records come to, and what stands when something failed.
-use Rattle.std.specs.Prelude.{◌≡◌, ◌⊎◌, ◌==◌, ℕ, Bool, true, List, [], ◌∷◌, take, Option, Some}
+use Rattle.std.specs.Prelude.{◌≡◌, ◌⊎◌, ◌||◌, ◌==◌, ℕ, Bool, true, List, [], ◌∷◌, take, Option, Some}
 use Rattle.std.specs.List.{list_any}
 use Rattle.oi_base.specs.Counts.{Rose}
 use Rattle.oi_outside.specs.Records.{Records}
@@ -33,11 +33,15 @@ pub record IsPart (o : Outcome) (records : Records) (is : Option Records) : Type
   pub count : ℕ
   pub stored : is ≡ Some (after (take count o.changes) records)
 
+-- a status that is not fatal gives way to that of a sink that failed
+abbrev pub is_mild : ℕ → Bool
+is_mild status = status == 0 || (status == 15 || status == 21)
+
 -- the store went along: all is as the outcome says, but for what the output did not take
 pub record IsCarriedOut (words : List (List ℕ)) (records : Records) (status : ℕ) (is : Option Records) (held0 held : Option (List ℕ)) : Type 0 where
   pub outcome : Outcome
   pub run : IsRun words records outcome
-  pub status_is : (status ≡ outcome.status) ⊎ ((outcome.status ≡ 0) × (status ≡ 31))
+  pub status_is : (status ≡ outcome.status) ⊎ ((is_mild outcome.status ≡ true) × (status ≡ 31))
   pub stored : is ≡ Some (after outcome.changes records)
   pub front : IsFront outcome.text held0 held
 
@@ -64,7 +68,7 @@ pub record HasCause (words : List (List ℕ)) (status store0 store sink0 sink : 
   pub store_failed : status ≡ 6 → Rose store0 store
   pub store_well : (status ≡ 6 → ⊥) → (status ≡ 3 → ⊥) → store ≡ store0
   pub sink_failed : status ≡ 31 → Rose sink0 sink
-  pub sink_well : status ≡ 0 → sink ≡ sink0
+  pub sink_well : is_mild status ≡ true → sink ≡ sink0
 
 -- with these statuses the text is a line of the fault, whatever the store tells
 abbrev pub fault_statuses : List ℕ
@@ -73,6 +77,7 @@ fault_statuses = 6 ∷ 7 ∷ 21 ∷ []
 pub record IsToldFault (status : ℕ) (held0 held : Option (List ℕ)) (sink0 sink : ℕ) : Type 0 where
   pub front : IsFront (fault_text status) held0 held
   pub whole : (Rose sink0 sink → ⊥) → held ≡ behind held0 (fault_text status)
+  pub mild : is_mild status ≡ true → held ≡ behind held0 (fault_text status)
 
 -- all that is promised of a run of the tool: where nothing failed it is whole
 pub record IsTool (words : List (List ℕ)) (status : ℕ) (was is : Option Records) (held0 held : Option (List ℕ)) (store0 store sink0 sink : ℕ) : Type 0 where

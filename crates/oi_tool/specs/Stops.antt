@@ -18,6 +18,12 @@ status_of Store = 6
 status_of Sink = 31
 status_of Memory = 3
 
+-- where the sink failed besides
+abbrev pub failed_status : Stop → ℕ
+failed_status Nothing = 31
+failed_status Used = 31
+failed_status other = status_of other
+
 abbrev pub stop_text : Stop → List ℕ
 stop_text (Unreadable path line) = (bad_record path line).text
 stop_text Sink = []

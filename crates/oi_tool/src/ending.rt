@@ -2,8 +2,8 @@ ghost use Rattle.std.specs.Prelude.{◌≡◌};
 ghost use Rattle.oi_tool.specs.Answers.{IsDone, IsLast, IsStopped};
 ghost use Rattle.oi_tool.specs.declared.stop.Stop.TheVariants.{Sink as SinkFailed};
 
-use crate::stop::{Stop, status_of, stop_text};
-use oi_outside::{Sink, write_all};
+use crate::stop::{Stop, failed_status, status_of, stop_text};
+use oi_outside::{Failed, Sink, write_all};
 use std::alloc::Global;
 
 /// Ends a run that did what was asked. A flush that fails shows in the status.
@@ -30,7 +30,7 @@ pub fn end_stopped<K: Sink>(alloc: Global, stop: &Stop, sink: &mut K) -> u8
 fn end_unwritten<K: Sink>(sink: &mut K) -> u8
     ensures { IsStopped SinkFailed result (K.held sink.old) (K.held sink.new) (K.faults sink.old) (K.faults sink.new) }
 {
-    write_last(sink, b"");
+    let _ = write_last(sink, b"");
     31
 }
 
@@ -40,21 +40,22 @@ fn end_told<K: Sink>(alloc: Global, stop: &Stop, sink: &mut K) -> u8
     ensures { IsStopped stop.now result (K.held sink.old) (K.held sink.new) (K.faults sink.old) (K.faults sink.new) }
 {
     match stop_text(alloc, stop) {
-        Ok(text) => {
-            write_last(sink, &text);
-            status_of(stop)
-        }
+        Ok(text) => match write_last(sink, &text) {
+            Ok(()) => status_of(stop),
+            Err(_) => failed_status(stop),
+        },
         Err(_) => {
-            write_last(sink, b"");
+            let _ = write_last(sink, b"");
             3
         }
     }
 }
 
-// That either fails shows in no status: there is another one.
-fn write_last<K: Sink>(sink: &mut K, text: &[u8])
-    ensures { IsLast text.now (K.held sink.old) (K.held sink.new) (K.faults sink.old) (K.faults sink.new) }
+// The sink is flushed, whether it took the text or not.
+fn write_last<K: Sink>(sink: &mut K, text: &[u8]) -> Result<(), Failed>
+    ensures { IsLast result text.now (K.held sink.old) (K.held sink.new) (K.faults sink.old) (K.faults sink.new) }
 {
-    let _ = write_all(sink, text);
-    let _ = sink.flush();
+    let written = write_all(sink, text);
+    sink.flush()?;
+    written
 }

@@ -1,7 +1,7 @@
 ghost use Rattle.std.specs.Prelude.{◌≡◌, ◌++◌, IfOk, OnOk};
 ghost use Rattle.oi_admin.specs.declared.fault.AdminFault.TheVariants.{Db};
 ghost use Rattle.oi_tool.specs.Outcomes.{bad_record, fault_text};
-ghost use Rattle.oi_tool.specs.Stops.{status_of, stop_of, stop_of_words, stop_text};
+ghost use Rattle.oi_tool.specs.Stops.{failed_status, status_of, stop_of, stop_of_words, stop_text};
 
 use oi_admin::AdminFault;
 use oi_base::{Label, NoMemory, write_number};
@@ -69,6 +69,16 @@ pub fn status_of(stop: &Stop) -> u8
         Stop::Store => 6,
         Stop::Sink => 31,
         Stop::Memory => 3,
+    }
+}
+
+/// The status where the sink failed besides: that of the sink, in place of one that is not fatal.
+pub fn failed_status(stop: &Stop) -> u8
+    ensures { result ≡ failed_status stop.now }
+{
+    match stop {
+        Stop::Nothing | Stop::InUse => 31,
+        other => status_of(other),
     }
 }
 

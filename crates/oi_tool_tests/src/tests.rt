@@ -261,21 +261,28 @@ fn record_schema_migration(rt: HostRuntime) -> Result<(), Fail> {
     Ok(())
 }
 
-// The room of a sink, its calls that fail, those of the store that fail, and the status and the text that are wanted.
-static FAILURES: [(u32, &[u64], &[u64], u8, &str); 5] = [
-    (100, &[], &[], 0, LINE),
-    (10, &[], &[], 31, "127.0.0.1:"),
-    (100, &[1], &[], 31, LINE),
-    (100, &[], &[1], 6, "fault 6 0\n"),
-    (5, &[], &[1], 6, "fault"),
+// Whether the record is stored, the room of a sink, its calls that fail, those of the store that fail, and the status and the text that
+// are wanted.
+static FAILURES: [(bool, u32, &[u64], &[u64], u8, &str); 9] = [
+    (true, 100, &[], &[], 0, LINE),
+    (true, 10, &[], &[], 31, "127.0.0.1:"),
+    (true, 100, &[1], &[], 31, LINE),
+    (true, 100, &[], &[1], 6, "fault 6 0\n"),
+    (true, 5, &[], &[1], 6, "fault"),
+    (false, 100, &[], &[], 21, "fault 21 0\n"),
+    (false, 5, &[], &[], 31, "fault"),
+    (false, 0, &[], &[], 31, ""),
+    (false, 100, &[1], &[], 31, "fault 21 0\n"),
 ];
 
 #[test]
 fn failing_sink_and_store(rt: HostRuntime) -> Result<(), Fail> {
     let alloc = rt.alloc();
     let words = words_of(alloc, "-m node")?;
-    for (room, fails, broken, wanted, text) in &FAILURES {
-        let mut store = store_of(alloc, *broken, &[(PATH, "2afcmy.")])?;
+    let stored: [(&str, &str); 1] = [(PATH, "2afcmy.")];
+    for (is_stored, room, fails, broken, wanted, text) in &FAILURES {
+        let texts = if *is_stored { &stored[..] } else { &[] };
+        let mut store = store_of(alloc, *broken, texts)?;
         let fails = Series::from_vec(Vec::from_slice(alloc, *fails)?);
         let mut sink = MemSink::new(alloc, *room, fails)?;
         assert_eq!(&rt; run_tool(alloc, &words, &mut sink, &mut store), *wanted);
