@@ -3,7 +3,7 @@
 use Rattle.std.specs.Prelude.{ℕ, ◌≤◌, ◌+◌, Bool, true, false, ◌==◌, List, [], ◌∷◌, Option, Some, None, IfSome, is_none, codes, drop, take, if◌then◌else◌}
 use Rattle.std.specs.List.{position}
 use Rattle.std.specs.Option.{option_and_then, option_map, unwrap_or}
-use Rattle.oi_base.specs.Limits.{least_segment, most_received, most_segment}
+use Rattle.oi_base.specs.Limits.{least_segment, most_segment}
 use Rattle.oi_base.specs.declared.login.Params.{Params}
 use Rattle.oi_script.specs.Numbers.{is_text, number_in}
 use Rattle.oi_script.specs.declared.keys.Key.{Key}
@@ -48,13 +48,13 @@ abbrev pub keys_of : Keys → List (List ℕ) → Option Keys
 keys_of k [] = Some k
 keys_of k (word ∷ words) = option_and_then (λ more. keys_of more words) (option_and_then (λ key. with_key k key) (key_of word))
 
--- the length that the target declared is the one that bounds what is sent
+-- what the line does not say has its default; the length that it names is the target's, which bounds what is sent
 abbrev pub params_of : Keys → Params
 params_of k = record {
   initial_r2t = unwrap_or k.initial_r2t true;
   immediate = unwrap_or k.immediate true;
   max_send = unwrap_or k.max_send 8192;
-  max_recv = most_received;
+  max_recv = 8192;
   max_burst = unwrap_or k.max_burst 262144;
   first_burst = unwrap_or k.first_burst 65536;
   outstanding = 1;

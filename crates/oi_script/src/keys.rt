@@ -133,7 +133,7 @@ impl Keys {
             initial_r2t: self.initial_r2t.unwrap_or(true),
             immediate: self.immediate.unwrap_or(true),
             max_send: self.max_send.unwrap_or(8192),
-            max_recv: 262_144,
+            max_recv: 8192,
             max_burst: self.max_burst.unwrap_or(262_144),
             first_burst: self.first_burst.unwrap_or(65_536),
             outstanding: 1,

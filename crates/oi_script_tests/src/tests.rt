@@ -203,7 +203,7 @@ const DEFAULTS: Params = Params {
     initial_r2t: true,
     immediate: true,
     max_send: 8192,
-    max_recv: 262_144,
+    max_recv: 8192,
     max_burst: 262_144,
     first_burst: 65_536,
     outstanding: 1,
