@@ -4,7 +4,6 @@ pub mod Configs
 pub mod Exchanges
 pub mod Keys
 pub mod Mutual
-pub mod Numbers
 pub mod Requests
 pub mod Stages
 pub mod States

@@ -1,4 +1,4 @@
-ghost use Rattle.std.specs.Prelude.{◌≡◌, ◌++◌, None, Some, IfOk, OnOk, MatchBool};
+ghost use Rattle.std.specs.Prelude.{◌≡◌, ◌≤◌, ◌++◌, None, Some, IfOk, IfSome, OnOk, MatchBool};
 ghost use Rattle.oi_text.specs.Binary.{IsBinary};
 ghost use Rattle.oi_text.specs.Pairs.{text_of};
 ghost use Rattle.oi_login.specs.Answers.{IsFound};
@@ -7,10 +7,10 @@ ghost use Rattle.oi_login.specs.Keys.{challenge_keys, response_keys};
 
 use crate::config::LoginAuth;
 use crate::keys::{put, put_bytes, put_number};
-use crate::numbers::number;
 use crate::pairs::sole;
 use oi_base::{Blob, Mutual, NoMemory};
 use oi_chap::{chap_check, chap_response};
+use oi_negotiate::number;
 use oi_text::{BinaryFault, Pair, read_binary};
 use std::alloc::Global;
 
@@ -40,11 +40,15 @@ pub fn challenge_in(alloc: Global, pairs: &[Pair]) -> Result<Option<Challenge>, 
     if length < 1 || MOST_CHALLENGE < length {
         return Ok(None);
     }
-    Ok(Some(Challenge { id, bytes }))
+    Ok(Some(Challenge {
+        id: id as u8,
+        bytes,
+    }))
 }
 
-fn number_of(key: &[u8], low: u8, high: u8, pairs: &[Pair]) -> Option<u8>
-    ensures { result ≡ number_of key.now low high pairs.now }
+fn number_of(key: &[u8], low: u32, high: u32, pairs: &[Pair]) -> Option<u32>
+    ensures value { result ≡ number_of key.now low high pairs.now }
+    ensures high { IfSome result (λ n. n ≤ high) }
 {
     match sole(key, pairs) {
         Some(text) => number(text, low, high),

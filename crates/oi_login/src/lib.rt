@@ -9,7 +9,6 @@ mod keys;
 mod laws;
 mod login;
 mod moves;
-mod numbers;
 mod pairs;
 mod progress;
 mod redirection;
