@@ -1,6 +1,7 @@
 -- A text is one list of pairs at most, a key has one binary value at most, and what follows where a thing is not found.
-use Rattle.std.proofs.Common.{◌≡◌, ◌∙◌, ◌<◌, ◌==◌, ◌||◌, ◌↔◌, ◌⊎◌, inl, inr, ℕ, Bool, true, false, List, [], ◌∷◌, ◌++◌, Option, Some, None, Ok, length, ap, sym, subst, refl, arith, MatchBool, IsTrue}
-use Rattle.std.specs.Prelude.{codes}
+use Rattle.std.proofs.Common.{◌≡◌, ◌∙◌, ◌<◌, ◌==◌, ◌||◌, ◌↔◌, ◌⊎◌, inl, inr, ℕ, Bool, true, false, List, [], ◌∷◌, ◌++◌, Option, Some, None, option_map, Ok, length, cond, ap, sym, subst, refl, arith, MatchBool, IsTrue}
+use Rattle.std.specs.Prelude.{codes, if◌then◌else◌}
+use Rattle.std.specs.List.{find}
 use Rattle.std.proofs.lemmas.Bool.{false≢true}
 use Rattle.std.proofs.lemmas.List.{append-nil}
 use Rattle.base64.proofs.EngineFacts.{decode_of-encode_of}
@@ -15,6 +16,7 @@ use Rattle.oi_names.specs.Portals.{IsPortal}
 use Rattle.oi_names.specs.declared.fault.NameFault.{NameFault}
 use Rattle.oi_names.specs.declared.fault.NameFault.TheVariants.{Bad}
 use Rattle.oi_names.specs.declared.portal.Portal.{Portal}
+use Rattle.oi_negotiate.specs.Keys.{is_text}
 use Rattle.oi_negotiate.specs.Negotiated.{answer_to}
 use Rattle.oi_text.specs.Binary.{IsHex, IsBase64, IsBinary}
 use Rattle.oi_text.specs.declared.pairs.Pair.{Pair}
@@ -27,6 +29,16 @@ use Rattle.oi_login.specs.Chap.{HasBinary, HasChallenge, HasProof}
 use Rattle.oi_login.specs.Turns.{NamesPortal}
 use Rattle.oi_login.specs.declared.chap.Challenge.{Challenge}
 use Rattle.oi_login.specs.declared.config.LoginAuth.{LoginAuth}
+
+value_by : (b : Bool) (p : Pair) (rest : Option (List ℕ)) (found : Option Pair) → rest ≡ option_map (λ q. q.value) found
+    → (if b then Some p.value else rest) ≡ option_map (λ q. q.value) (cond b (Some p) found)
+value_by true p rest found e = refl
+value_by false p rest found e = e
+
+-- the answer to a key is the value of the first pair with it
+pub first_value : (key : List ℕ) (ps : List Pair) → answer_to key ps ≡ option_map (λ p. p.value) (find (λ p. is_text p.key key) ps)
+first_value key [] = refl
+first_value key (p ∷ ps) = value_by (is_text p.key key) p (answer_to key ps) (find (λ q. is_text q.key key) ps) (first_value key ps)
 
 pub one_text : (bytes : List ℕ) (ps qs : List Pair) → IsText bytes ps → IsText bytes qs → ps ≡ qs
 one_text bytes ps qs a b =

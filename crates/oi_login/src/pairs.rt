@@ -1,4 +1,7 @@
 ghost use Rattle.std.specs.Prelude.{◌≡◌, [], ◌∷◌, ◌++◌, None, Some, IfOk, OnOk, MatchOption, count_by};
+ghost use Rattle.std.specs.List.{find};
+ghost use Rattle.std.specs.Option.{option_copied};
+ghost use Rattle.oi_negotiate.specs.Keys.{is_text};
 ghost use Rattle.oi_negotiate.specs.Negotiated.{answer_to};
 ghost use Rattle.oi_text.specs.Pairs.{IsText};
 ghost use Rattle.oi_login.specs.Answers.{IsFound, count_of, sole};
@@ -19,15 +22,17 @@ pub fn read_text(alloc: Global, text: &[u8]) -> Result<Option<Series<Pair>>, NoM
 }
 
 /// The value of the first pair with a key.
+#[tactic(auto, using(crate::proofs::Readings::first_value))]
 pub fn answer_to<'a>(key: &[u8], pairs: &'a [Pair]) -> Option<&'a [u8]>
     ensures { MatchOption result (answer_to key.now pairs.now ≡ None) (λ value. answer_to key.now pairs.now ≡ Some value.now) }
 {
-    for pair in pairs {
-        if pair.key.as_slice() == key {
-            return Some(pair.value.as_slice());
-        }
-    }
-    None
+    first_with(key, pairs).map(|pair| pair.value.as_slice())
+}
+
+fn first_with<'a>(key: &[u8], pairs: &'a [Pair]) -> Option<&'a Pair>
+    ensures { option_copied result ≡ find (λ p. is_text p.key key.now) pairs.now }
+{
+    pairs.iter().find(|pair| pair.key.as_slice() == key)
 }
 
 /// How many pairs have a key.
