@@ -1,4 +1,4 @@
--- A text is one list of pairs at most, a key has one binary value at most, and what follows where a thing is not found.
+-- A text is one list of pairs at most, a key has one binary value at most, its answer is the value of the first pair with it, and what follows where a thing is not found.
 use Rattle.std.proofs.Common.{◌≡◌, ◌∙◌, ◌<◌, ◌==◌, ◌||◌, ◌↔◌, ◌⊎◌, inl, inr, ℕ, Bool, true, false, List, [], ◌∷◌, ◌++◌, Option, Some, None, option_map, Ok, length, cond, ap, sym, subst, refl, arith, MatchBool, IsTrue}
 use Rattle.std.specs.Prelude.{codes, if◌then◌else◌}
 use Rattle.std.specs.List.{find}
