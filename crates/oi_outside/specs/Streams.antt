@@ -31,3 +31,9 @@ IsCounted (Err e) before now = Rose before now
 pub record IsFront (text : List ℕ) (held0 held : Option (List ℕ)) : Type 0 where
   pub count : ℕ
   pub is : held ≡ behind held0 (take count text)
+
+-- a front of the text was taken, and not all of it
+pub record IsCutShort (text : List ℕ) (held0 held : Option (List ℕ)) : Type 0 where
+  pub count : ℕ
+  pub short : count < length text
+  pub is : held ≡ behind held0 (take count text)

@@ -1,5 +1,5 @@
 ghost use Rattle.std.specs.Prelude.{◌≡◌, ◌≤◌, ◌<◌, ◌-◌, IfOk, OnErr, OnOk, drop, length, take};
-ghost use Rattle.oi_outside.specs.Streams.{IsCounted, IsFront, behind};
+ghost use Rattle.oi_outside.specs.Streams.{IsCounted, IsCutShort, IsFront, behind};
 
 use crate::failed::Failed;
 use crate::sink::Sink;
@@ -19,6 +19,7 @@ fn write_from<K: Sink>(sink: &mut K, bytes: &[u8], at: usize) -> Result<usize, F
 pub fn write_all<K: Sink>(sink: &mut K, bytes: &[u8]) -> Result<(), Failed>
     ensures held { OnOk result (K.held sink.new ≡ behind (K.held sink.old) bytes.now) }
     ensures front { IsFront bytes.now (K.held sink.old) (K.held sink.new) }
+    ensures short { OnErr result (IsCutShort bytes.now (K.held sink.old) (K.held sink.new)) }
     ensures count { IsCounted result (K.faults sink.old) (K.faults sink.new) }
 {
     let mut at = 0;
