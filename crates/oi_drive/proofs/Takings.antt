@@ -3,8 +3,10 @@ use Rattle.std.proofs.Common.{◌≡◌, ◌∙◌, ◌+◌, ◌≤◌, ◌<◌,
 use Rattle.std.proofs.lemmas.List.{take_more}
 use Rattle.oi_drive.proofs.Outputs.{behind-append, behind_none}
 use Rattle.oi_drive.proofs.Readings.{feed-append, feed_text-append}
-use Rattle.oi_drive.specs.Parts.{BrokeIn, IsPartly}
+use Rattle.oi_drive.proofs.Breaks.{partly_at}
+use Rattle.oi_drive.specs.Parts.{BrokeIn, IsLineFeed, IsPartly}
 use Rattle.oi_drive.specs.Worlds.{World, byte_text, feed, feed_byte, feed_text}
+use Rattle.oi_drive.specs.declared.runner.Broken.{Broken}
 use Rattle.oi_outside.specs.Streams.{behind}
 
 -- i bytes of a piece were taken
@@ -61,13 +63,20 @@ cut_at zero piece = refl
 cut_at (suc i) [] = refl
 cut_at (suc i) (x ∷ xs) = ap (λ (z : List ℕ). x ∷ z) (cut_at i xs)
 
+line_feed_at : (piece : List ℕ) (i : ℕ) → i < length piece → get_or piece i 0 ≡ 10 → IsLineFeed (drop i piece)
+line_feed_at [] i h is = absurd (omega arith)
+line_feed_at (x ∷ xs) zero h is = is
+line_feed_at (x ∷ xs) (suc i) h is = line_feed_at xs i (omega arith) is
+
 -- a byte broke
-pub taking_broke : (w0 w v : World) (piece : List ℕ) (i : ℕ) (held0 held held1 : Option (List ℕ)) (faults0 faults : ℕ) → IsTaking w0 w piece i held0 held faults0 faults → IsPartly w v held held1 → is_some w.stop ≡ false
-    → BrokeIn piece w0 v held0 held1
-taking_broke w0 w v piece i held0 held held1 faults0 faults r partly going = record {
+pub taking_broke : (b : Broken) (w0 w v : World) (piece : List ℕ) (i : ℕ) (held0 held held1 : Option (List ℕ)) (faults0 faults : ℕ) → i < length piece → IsTaking w0 w piece i held0 held faults0 faults
+    → IsPartly b (get_or piece i 0 ≡ 10) w v held held1 → is_some w.stop ≡ false → BrokeIn b piece w0 v held0 held1
+taking_broke b w0 w v piece i held0 held held1 faults0 faults less r partly going = record {
   fed = take i piece;
   more = drop i piece;
   whole = cut_at i piece;
   going = subst (λ (z : World). is_some z.stop ≡ false) r.world going;
-  partly = subst (λ (h : Option (List ℕ)). IsPartly (feed w0 (take i piece)) v h held1) r.text (subst (λ (z : World). IsPartly z v held held1) r.world partly);
+  partly = subst (λ (h : Option (List ℕ)). IsPartly b (IsLineFeed (drop i piece)) (feed w0 (take i piece)) v h held1) r.text
+      (subst (λ (z : World). IsPartly b (IsLineFeed (drop i piece)) z v held held1) r.world
+      (partly_at b (get_or piece i 0 ≡ 10) (IsLineFeed (drop i piece)) w v held held1 (line_feed_at piece i less) partly));
 }

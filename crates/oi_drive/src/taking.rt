@@ -1,4 +1,4 @@
-ghost use Rattle.std.specs.Prelude.{◌≡◌, ◌++◌, ◌∷◌, [], OnErr, OnOk, false, is_some};
+ghost use Rattle.std.specs.Prelude.{◌≡◌, ◌<◌, ◌++◌, ◌∷◌, [], IfErr, OnErr, OnOk, false, is_some, length};
 ghost use Rattle.oi_drive.specs.Parts.{BrokeIn, IsPartly};
 ghost use Rattle.oi_drive.specs.Runs.{seen};
 ghost use Rattle.oi_drive.specs.Worlds.{byte_text, feed, feed_byte, feed_text, input_end, input_end_text, line_step, line_text, stopped_at_end};
@@ -24,7 +24,7 @@ fn grow(part: &mut Vec<u8>, b: u8) -> Result<(), NoMemory>
 fn end_line<K: Sink>(run: &mut Runner, sink: &mut K) -> Result<(), Broken>
     ensures world { OnOk result (seen run.new ≡ line_step (seen run.old)) }
     ensures prints { Prints result (line_text (seen run.old)) (K.held sink.old) (K.held sink.new) (K.faults sink.old) (K.faults sink.new) }
-    ensures partly { OnErr result (IsPartly (seen run.old) (seen run.new) (K.held sink.old) (K.held sink.new)) }
+    ensures partly { IfErr result (λ broken. IsPartly broken (Unit {0}) (seen run.old) (seen run.new) (K.held sink.old) (K.held sink.new)) }
 {
     let mut out = Vec::new(run.alloc);
     line_step(run, &mut out)?;
@@ -36,7 +36,7 @@ pub fn take_byte<K: Sink>(run: &mut Runner, sink: &mut K, b: u8) -> Result<(), B
     ensures going { OnErr result (is_some (seen run.old).stop ≡ false) }
     ensures world { OnOk result (seen run.new ≡ feed_byte (seen run.old) b) }
     ensures prints { Counts result (byte_text (seen run.old) b) (K.held sink.old) (K.held sink.new) (K.faults sink.old) (K.faults sink.new) }
-    ensures partly { OnErr result (IsPartly (seen run.old) (seen run.new) (K.held sink.old) (K.held sink.new)) }
+    ensures partly { IfErr result (λ broken. IsPartly broken (b ≡ 10) (seen run.old) (seen run.new) (K.held sink.old) (K.held sink.new)) }
 {
     if run.stop.is_some() {
         return Ok(());
@@ -56,7 +56,7 @@ pub fn take_byte<K: Sink>(run: &mut Runner, sink: &mut K, b: u8) -> Result<(), B
 pub fn take_piece<K: Sink>(run: &mut Runner, sink: &mut K, piece: &[u8]) -> Result<(), Broken>
     ensures world { OnOk result (seen run.new ≡ feed (seen run.old) piece.now) }
     ensures prints { Counts result (feed_text (seen run.old) piece.now) (K.held sink.old) (K.held sink.new) (K.faults sink.old) (K.faults sink.new) }
-    ensures partly { OnErr result (BrokeIn piece.now (seen run.old) (seen run.new) (K.held sink.old) (K.held sink.new)) }
+    ensures partly { IfErr result (λ broken. BrokeIn broken piece.now (seen run.old) (seen run.new) (K.held sink.old) (K.held sink.new)) }
 {
     for b in piece {
         match take_byte(run, sink, *b) {
@@ -81,7 +81,7 @@ pub fn end_of_input<K: Sink>(run: &mut Runner, sink: &mut K) -> Result<(), Broke
     ensures going { OnErr result (is_some (seen run.old).stop ≡ false) }
     ensures world { OnOk result (seen run.new ≡ input_end (seen run.old)) }
     ensures prints { Counts result (input_end_text (seen run.old)) (K.held sink.old) (K.held sink.new) (K.faults sink.old) (K.faults sink.new) }
-    ensures partly { OnErr result (IsPartly (seen run.old) (seen run.new) (K.held sink.old) (K.held sink.new)) }
+    ensures partly { IfErr result (λ broken. IsPartly broken (0 < length (seen run.old).part) (seen run.old) (seen run.new) (K.held sink.old) (K.held sink.new)) }
 {
     if run.stop.is_some() {
         return Ok(());

@@ -1,6 +1,6 @@
 use Rattle.std.proofs.Common.{◌∙◌, ℕ, Option, Ok, refl, subst}
 use Rattle.oi_base.specs.Limits.{input_limit}
-use Rattle.oi_drive.proofs.Breaks.{broke_behind, unmoved}
+use Rattle.oi_drive.proofs.Breaks.{broke_behind, memory_is_other, unmoved}
 use Rattle.oi_drive.specs.declared.runner.Broken.TheVariants.{Memory}
 use Rattle.oi_drive.proofs.Readings.{breaks_by_from, going_end, going_more}
 use Rattle.oi_drive.specs.Inputs.{ReadsOnce}
@@ -34,7 +34,7 @@ returns-in-Ok-None g c =
 
 pub returns-in_default : goal.returns-in_default
 returns-in_default g c =
-    ((refl, refl), unmoved Memory (g.S.Source.left c.args.source.now) (g.S.Source.left c.args.source.now) (seen c.args.run.now) (g.K.Sink.held c.args.sink.now) refl)
+    ((refl, refl), unmoved Memory (g.S.Source.left c.args.source.now) (g.S.Source.left c.args.source.now) (seen c.args.run.now) (g.K.Sink.held c.args.sink.now) memory_is_other refl)
 
 pub returns-in-Err : goal.returns-in-Err
 returns-in-Err g c =

@@ -1,6 +1,6 @@
 use Rattle.std.proofs.Common.{◌∙◌, ◌-◌, List, ℕ, sym, ap, arith, refl, take}
 use Rattle.std.proofs.lemmas.List.{length-take-le}
-use Rattle.oi_drive.proofs.Breaks.{broke_by, end_broke, front_broke, unmoved}
+use Rattle.oi_drive.proofs.Breaks.{broke_by, end_broke, front_broke, read_is_other, unmoved}
 use Rattle.oi_drive.specs.declared.runner.Broken.TheVariants.{Read}
 use Rattle.oi_drive.proofs.Readings.{finishes_stopped}
 use Rattle.oi_drive.specs.Runs.{seen}
@@ -24,7 +24,7 @@ returns-then-is_some g c =
 
 pub returns-in-Err : goal.returns-in-Err
 returns-in-Err g c =
-    ((c.in-Err.ensures.count, refl), unmoved Read (g.S.Source.left c.args.source.now) (g.S.Source.left c.read.new.self) (seen c.args.run.now) (g.K.Sink.held c.args.sink.now) c.in-Err.ensures.reads)
+    ((c.in-Err.ensures.count, refl), unmoved Read (g.S.Source.left c.args.source.now) (g.S.Source.left c.read.new.self) (seen c.args.run.now) (g.K.Sink.held c.args.sink.now) read_is_other c.in-Err.ensures.reads)
 
 pub returns-in-Err-take_piece : goal.returns-in-Err-take_piece
 returns-in-Err-take_piece g c = (
@@ -41,7 +41,7 @@ returns-in-Err-end_of_input g c = (
       (g.K.Sink.faults c.args.sink.now) (g.K.Sink.faults c.end_of_input.new.sink) c.in-Ok.ensures.count c.in-Err-end_of_input.ensures.prints,
   end_broke c.in-Err-end_of_input.broken (g.S.Source.left c.args.source.now) (g.S.Source.left c.read.new.self) (seen c.args.run.now) (seen c.end_of_input.new.run)
       (g.K.Sink.held c.args.sink.now) (g.K.Sink.held c.end_of_input.new.sink) (g.K.Sink.faults c.args.sink.now) (g.K.Sink.faults c.end_of_input.new.sink) c.in-Ok.n c.read.new.buf
-      _ c.in-Ok.ensures.reads.1 c.if-n-eq0.true c.in-Err-end_of_input.ensures.prints c.in-Err-end_of_input.ensures.partly c.in-Err-end_of_input.ensures.going,
+      _ c.in-Ok.ensures.reads.1 c.if-n-eq0.true c.in-Ok.ensures.reads.2 c.in-Err-end_of_input.ensures.prints c.in-Err-end_of_input.ensures.partly c.in-Err-end_of_input.ensures.going,
 )
 
 pub returns-in-Err-take_piece-2 : goal.returns-in-Err-take_piece-2
