@@ -1,5 +1,5 @@
 -- A run whose input was read and that was closed is the run of its bytes.
-use Rattle.std.proofs.Common.{◌≡◌, ◌∙◌, ◌⊎◌, inl, inr, ◌==◌, ℕ, Bool, true, false, true≢false, List, [], ◌∷◌, ◌++◌, ◌+◌, suc, zero, length, take, nat_eq, Option, Some, None, is_some, sym, ap, subst, refl, arith, ◌<◌, ◌≤◌, if◌then◌else◌}
+use Rattle.std.proofs.Common.{◌≡◌, ◌∙◌, ◌⊎◌, inl, inr, ◌==◌, ℕ, Bool, true, false, true≢false, List, [], ◌∷◌, ◌++◌, suc, zero, length, take, nat_eq, Option, Some, None, is_some, sym, ap, subst, refl, arith, ◌<◌, ◌≤◌, if◌then◌else◌}
 use Rattle.std.proofs.lemmas.Bool.Decides.{nat_tests}
 use Rattle.oi_base.specs.Counts.{Rose}
 use Rattle.oi_base.specs.Limits.{input_limit}

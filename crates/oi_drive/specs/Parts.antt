@@ -1,5 +1,5 @@
 -- What stands where a replay broke off: the entries and the text of the lines before, and a first part of the next line's.
-use Rattle.std.specs.Prelude.{◌≡◌, ◌<◌, ◌⊎◌, ℕ, false, List, [], ◌∷◌, ◌++◌, Option, Some, is_some, length, take}
+use Rattle.std.specs.Prelude.{◌≡◌, ◌<◌, ◌⊎◌, ℕ, false, List, [], ◌∷◌, ◌++◌, Option, Some, is_some, length}
 use Rattle.oi_drive.specs.Acts.{IsPart}
 use Rattle.oi_drive.specs.Worlds.{World, feed, feed_text, line_base, line_entries, line_text}
 use Rattle.oi_drive.specs.declared.runner.Broken.{Broken}
