@@ -22,6 +22,7 @@ const NO_ROOM: u8 = 0x55;
 /// The registrations and the reservation of one logical unit.
 #[derive(Debug, Drop)]
 pub struct Reservations {
+    alloc: Global,
     registered: Vec<Registration>,
     holder: Option<Holder>,
     generation: u32,
@@ -44,6 +45,7 @@ impl Reservations {
         ensures { result ≡ empty_table }
     {
         Reservations {
+            alloc,
             registered: Vec::new(alloc),
             holder: None,
             generation: 0,
@@ -53,7 +55,6 @@ impl Reservations {
     /// Judges a PERSISTENT RESERVE OUT of this nexus with its parameters.
     pub fn out(
         &mut self,
-        alloc: Global,
         nexus: &Nexus,
         cdb: &[u8; 16],
         payload: &[u8],
@@ -63,18 +64,13 @@ impl Reservations {
         ensures same { OnErr result (self.new ≡ self.old) }
     {
         match read_order(cdb, payload) {
-            Ok(order) => self.act(alloc, nexus.bytes.as_slice(), &order),
+            Ok(order) => self.act(nexus.bytes.as_slice(), &order),
             Err(asc) => Ok(ReserveAnswer::Check { asc }),
         }
     }
 
     /// Appends what PERSISTENT RESERVE IN answers, cut at the length that its CDB states.
-    pub fn inquire(
-        &self,
-        alloc: Global,
-        cdb: &[u8; 16],
-        out: &mut Vec<u8>,
-    ) -> Result<ReserveAnswer, NoMemory>
+    pub fn inquire(&self, cdb: &[u8; 16], out: &mut Vec<u8>) -> Result<ReserveAnswer, NoMemory>
         ensures answer { IfOk result (λ a. a ≡ reserve_in_answer cdb.now) }
         ensures data { OnOk result (out.new.items ≡ out.old.items ++ reserve_in self.now cdb.now) }
         ensures same { OnErr result (out.new.items ≡ out.old.items) }
@@ -82,11 +78,16 @@ impl Reservations {
         let limit = u16::from_be_bytes([cdb[7], cdb[8]]) as usize;
         match cdb[1] {
             0 => {
-                let report = keys_report(alloc, self.generation, &self.registered)?;
+                let report = keys_report(self.alloc, self.generation, &self.registered)?;
                 send(&report, limit, out)
             }
             1 => {
-                let report = holder_report(alloc, self.generation, &self.registered, &self.holder)?;
+                let report = holder_report(
+                    self.alloc,
+                    self.generation,
+                    &self.registered,
+                    &self.holder,
+                )?;
                 send(&report, limit, out)
             }
             _ => Ok(ReserveAnswer::Check { asc: BAD_FIELD }),
@@ -111,42 +112,37 @@ impl Reservations {
         }
     }
 
-    fn act(&mut self, alloc: Global, nexus: &[u8], order: &Order) -> Result<ReserveAnswer, NoMemory>
+    fn act(&mut self, nexus: &[u8], order: &Order) -> Result<ReserveAnswer, NoMemory>
         ensures answer { IfOk result (λ a. a ≡ (done_by order.now.action self.old nexus.now order.now).answer) }
         ensures table { OnOk result (self.new ≡ (done_by order.now.action self.old nexus.now order.now).table) }
         ensures same { OnErr result (self.new ≡ self.old) }
     {
         match order.action {
-            Action::RegisterAnyway => self.register(alloc, nexus, order.new_key),
+            Action::RegisterAnyway => self.register(nexus, order.new_key),
             Action::Register => {
                 if key_or_zero(&self.registered, nexus) != order.key {
                     return Ok(ReserveAnswer::Conflict);
                 }
-                self.register(alloc, nexus, order.new_key)
+                self.register(nexus, order.new_key)
             }
             Action::Reserve | Action::Release | Action::Clear | Action::Preempt => {
                 if !is_owner(&self.registered, nexus, order.key) {
                     return Ok(ReserveAnswer::Conflict);
                 }
-                self.act_as_owner(alloc, nexus, order)
+                self.act_as_owner(nexus, order)
             }
         }
     }
 
-    fn act_as_owner(
-        &mut self,
-        alloc: Global,
-        nexus: &[u8],
-        order: &Order,
-    ) -> Result<ReserveAnswer, NoMemory>
+    fn act_as_owner(&mut self, nexus: &[u8], order: &Order) -> Result<ReserveAnswer, NoMemory>
         ensures answer { IfOk result (λ a. a ≡ (owner_done order.now.action self.old nexus.now order.now).answer) }
         ensures table { OnOk result (self.new ≡ (owner_done order.now.action self.old nexus.now order.now).table) }
         ensures same { OnErr result (self.new ≡ self.old) }
     {
         match order.action {
-            Action::Reserve => self.reserve(alloc, nexus, order.form),
+            Action::Reserve => self.reserve(nexus, order.form),
             Action::Release => Ok(self.release(nexus, order.form)),
-            Action::Preempt => self.preempt(alloc, nexus, order.form, order.new_key),
+            Action::Preempt => self.preempt(nexus, order.form, order.new_key),
             Action::Clear => {
                 self.clear();
                 Ok(ReserveAnswer::Good)
@@ -155,7 +151,7 @@ impl Reservations {
         }
     }
 
-    fn register(&mut self, alloc: Global, nexus: &[u8], key: u64) -> Result<ReserveAnswer, NoMemory>
+    fn register(&mut self, nexus: &[u8], key: u64) -> Result<ReserveAnswer, NoMemory>
         ensures answer { IfOk result (λ a. a ≡ (registered_as self.old nexus.now key).answer) }
         ensures table { OnOk result (self.new ≡ (registered_as self.old nexus.now key).table) }
         ensures same { OnErr result (self.new ≡ self.old) }
@@ -174,13 +170,13 @@ impl Reservations {
         if self.registered.len() >= MOST {
             return Ok(ReserveAnswer::Check { asc: NO_ROOM });
         }
-        let nexus = Blob::from_slice(alloc, nexus)?;
+        let nexus = Blob::from_slice(self.alloc, nexus)?;
         self.registered.push(Registration { nexus, key })?;
         self.generation = self.generation.wrapping_add(1);
         Ok(ReserveAnswer::Good)
     }
 
-    fn reserve(&mut self, alloc: Global, nexus: &[u8], form: u8) -> Result<ReserveAnswer, NoMemory>
+    fn reserve(&mut self, nexus: &[u8], form: u8) -> Result<ReserveAnswer, NoMemory>
         ensures answer { IfOk result (λ a. a ≡ (reserved_by self.old nexus.now form self.old.holder).answer) }
         ensures table { OnOk result (self.new ≡ (reserved_by self.old nexus.now form self.old.holder).table) }
         ensures same { OnErr result (self.new ≡ self.old) }
@@ -192,7 +188,7 @@ impl Reservations {
                 ReserveAnswer::Conflict
             });
         }
-        let nexus = Blob::from_slice(alloc, nexus)?;
+        let nexus = Blob::from_slice(self.alloc, nexus)?;
         self.holder = Some(Holder { nexus, form });
         Ok(ReserveAnswer::Good)
     }
@@ -218,13 +214,7 @@ impl Reservations {
         self.generation = self.generation.wrapping_add(1);
     }
 
-    fn preempt(
-        &mut self,
-        alloc: Global,
-        nexus: &[u8],
-        form: u8,
-        key: u64,
-    ) -> Result<ReserveAnswer, NoMemory>
+    fn preempt(&mut self, nexus: &[u8], form: u8, key: u64) -> Result<ReserveAnswer, NoMemory>
         ensures answer { IfOk result (λ a. a ≡ (preempted self.old nexus.now form key).answer) }
         ensures table { OnOk result (self.new ≡ (preempted self.old nexus.now form key).table) }
         ensures same { OnErr result (self.new ≡ self.old) }
@@ -235,7 +225,14 @@ impl Reservations {
         if !has_key(&self.registered, key) {
             return Ok(ReserveAnswer::Conflict);
         }
-        take_over(alloc, &mut self.holder, &self.registered, nexus, form, key)?;
+        take_over(
+            self.alloc,
+            &mut self.holder,
+            &self.registered,
+            nexus,
+            form,
+            key,
+        )?;
         remove_others(&mut self.registered, nexus, key);
         self.generation = self.generation.wrapping_add(1);
         Ok(ReserveAnswer::Good)

@@ -98,12 +98,12 @@ fn orders_one_after_another(rt: HostRuntime) -> Result<(), Fail> {
         let parameters = order.data(alloc)?;
         let nexus = if is_first { &first } else { &second };
         assert_eq!(rt;
-            table.out(alloc, nexus, &cdb(&order), parameters.as_slice())?,
+            table.out(nexus, &cdb(&order), parameters.as_slice())?,
             answer
         );
         let mut out = Vec::new(alloc);
         assert_eq!(rt;
-            table.inquire(alloc, &cdb(&Kind::ReserveIn { action: 1 }), &mut out)?,
+            table.inquire(&cdb(&Kind::ReserveIn { action: 1 }), &mut out)?,
             GOOD
         );
         let size = if held == 0 { 8 } else { 24 };
@@ -128,27 +128,24 @@ fn command_bytes_and_reports(rt: HostRuntime) -> Result<(), Fail> {
     parameters[15] = 0xaa;
     let register = [0x5f, 0, 0, 0, 0, 0, 0, 0, 24, 0, 0, 0, 0, 0, 0, 0];
     let short = ReserveAnswer::Check { asc: 0x1a };
-    assert_eq!(rt;
-        table.out(alloc, &nexus, &register, &parameters[..23])?,
-        short
-    );
+    assert_eq!(rt; table.out(&nexus, &register, &parameters[..23])?, short);
     let stated = [0x5f, 0, 0, 0, 0, 0, 0, 0, 23, 0, 0, 0, 0, 0, 0, 0];
-    assert_eq!(rt; table.out(alloc, &nexus, &stated, &parameters)?, short);
+    assert_eq!(rt; table.out(&nexus, &stated, &parameters)?, short);
     let scope = [0x5f, 0, 0x10, 0, 0, 0, 0, 0, 24, 0, 0, 0, 0, 0, 0, 0];
     assert_eq!(rt;
-        table.out(alloc, &nexus, &scope, &parameters)?,
+        table.out(&nexus, &scope, &parameters)?,
         ReserveAnswer::Check { asc: 0x24 }
     );
     parameters[20] = 1;
     assert_eq!(rt;
-        table.out(alloc, &nexus, &register, &parameters)?,
+        table.out(&nexus, &register, &parameters)?,
         ReserveAnswer::Check { asc: 0x26 }
     );
     parameters[20] = 0;
-    assert_eq!(rt; table.out(alloc, &nexus, &register, &parameters)?, GOOD);
+    assert_eq!(rt; table.out(&nexus, &register, &parameters)?, GOOD);
     parameters[7] = 0xaa;
     let reserve = [0x5f, 1, 1, 0, 0, 0, 0, 0, 24, 0, 0, 0, 0, 0, 0, 0];
-    assert_eq!(rt; table.out(alloc, &nexus, &reserve, &parameters)?, GOOD);
+    assert_eq!(rt; table.out(&nexus, &reserve, &parameters)?, GOOD);
     let keys = [0u8, 0, 0, 1, 0, 0, 0, 8, 0, 0, 0, 0, 0, 0, 0, 0xaa];
     let reservation = [
         0u8, 0, 0, 1, 0, 0, 0, 16, 0, 0, 0, 0, 0, 0, 0, 0xaa, 0, 0, 0, 0, 0, 1, 0, 0,
@@ -162,7 +159,7 @@ fn command_bytes_and_reports(rt: HostRuntime) -> Result<(), Fail> {
     ] {
         let mut out = Vec::new(alloc);
         let asked = [0x5e, action, 0, 0, 0, 0, 0, 0, limit, 0, 0, 0, 0, 0, 0, 0];
-        assert_eq!(rt; table.inquire(alloc, &asked, &mut out)?, answer);
+        assert_eq!(rt; table.inquire(&asked, &mut out)?, answer);
         assert_eq!(rt; out.as_slice(), bytes);
     }
     Ok(())
@@ -189,7 +186,7 @@ fn no_more_than_32_registrations(rt: HostRuntime) -> Result<(), Fail> {
             ReserveAnswer::Check { asc: 0x55 }
         };
         assert_eq!(rt;
-            table.out(alloc, &nexus, &cdb(&order), parameters.as_slice())?,
+            table.out(&nexus, &cdb(&order), parameters.as_slice())?,
             wanted
         );
     }
@@ -226,7 +223,7 @@ fn who_may_pass(rt: HostRuntime) -> Result<(), Fail> {
             };
             let parameters = order.data(alloc)?;
             assert_eq!(rt;
-                table.out(alloc, nexus, &cdb(&order), parameters.as_slice())?,
+                table.out(nexus, &cdb(&order), parameters.as_slice())?,
                 GOOD
             );
         }

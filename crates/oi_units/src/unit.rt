@@ -83,7 +83,7 @@ impl LogicalUnit {
         ensures bytes { IfOk result (λ g. g.bytes.items ≡ reserve_in self.now.reservations cdb.now) }
     {
         let mut bytes = Vec::new(alloc);
-        let told = self.reservations.inquire(alloc, cdb, &mut bytes)?;
+        let told = self.reservations.inquire(cdb, &mut bytes)?;
         let answer = reserve_answer(alloc, told)?;
         Ok(Given { answer, bytes })
     }
@@ -100,7 +100,7 @@ impl LogicalUnit {
         ensures bytes { IfOk result (λ g. g.bytes.items ≡ (by_table self.old (reserve_out self.old.reservations nexus.now.bytes cdb.now payload.now)).bytes) }
         ensures unit { OnOk result (self.new ≡ (by_table self.old (reserve_out self.old.reservations nexus.now.bytes cdb.now payload.now)).unit) }
     {
-        let told = self.reservations.out(alloc, nexus, cdb, payload)?;
+        let told = self.reservations.out(nexus, cdb, payload)?;
         let answer = reserve_answer(alloc, told)?;
         let bytes = Vec::new(alloc);
         Ok(Given { answer, bytes })
