@@ -16,7 +16,7 @@ use Rattle.oi_target.specs.declared.link.Serving.{Serving}
 use Rattle.oi_target.specs.declared.link.Standing.TheVariants as standing
 use Rattle.oi_target_login.specs.Answers.{address_keys, group_keys, keyed, target_offer}
 use Rattle.oi_target_login.specs.Chap.{by_algorithm, by_method, challenge_keys, challenged, has_md5, is_passed, is_proved, secured, shown, stands, unsecured}
-use Rattle.oi_target_login.specs.Logins.{answered, answered_with, asked_on, authed, began, begun, call_of, ends_login, goes_on, heard, is_due, is_last, is_long, known_as, opened, refused, requested, response_text, sent_away, settled, told, told_by, turned, turned_by, undrawn}
+use Rattle.oi_target_login.specs.Logins.{answered, answered_with, asked_on, authed, began, begun, call_of, ends_login, goes_on, heard, is_due, is_last, is_long, known_as, opened, refused, requested, response_text, sent_away, told, told_by, turned, turned_by, undrawn}
 use Rattle.oi_target_login.specs.Names.{authentication_failure, initiator_error, is_sent_away, naming, out_of_resources, status}
 use Rattle.oi_target_login.specs.Texts.{lists, text_pairs}
 use Rattle.oi_target_login.specs.declared.answer.Answer.{Answer}
@@ -136,11 +136,13 @@ with_sound P c who params all auth text give = go (is_long text) (ends_login c.h
   go false true is = (refl, give (is refl))
   go false false is = (give, tt)
 
-answered_sound : (P : Who → Type 0) (c : Call) (who : Who) (params : Params) (front : List ℕ) (pairs all : List Pair) (s : Step)
-    → ((text : List ℕ) → s ≡ Stands Passed text → who.discovers ≡ false → P who) → AreSound P (answered c who params front pairs all s)
-answered_sound P c who params front pairs all (Fails s) give = (refl, tt)
-answered_sound P c who params front pairs all (Stands auth text) give =
-    with_sound P c who params all auth (response_text c.head params front auth text pairs) (λ is. give text (ap (λ (a : Auth). Stands a text) is))
+answered_sound : (P : Who → Type 0) (c : Call) (who : Who) (front : List ℕ) (pairs all : List Pair) (key : Option (List ℕ)) (s : Step)
+    → ((text : List ℕ) → s ≡ Stands Passed text → who.discovers ≡ false → P who) → AreSound P (answered c who front pairs all key s)
+answered_sound P c who front pairs all key (Fails s) give = (refl, tt)
+answered_sound P c who front pairs all (Some key) (Stands auth text) give = (refl, tt)
+answered_sound P c who front pairs all None (Stands auth text) give =
+    with_sound P c who (negotiated target_offer all) all auth (response_text c.head (negotiated target_offer all) front auth text pairs)
+    (λ is. give text (ap (λ (a : Auth). Stands a text) is))
 
 -- of the initiator who logs in with these pairs
 abbrev pub Gives : (Who → Type 0) → LoginRules → LoginRequest → Who → Auth → List Pair → Type 0
@@ -149,11 +151,8 @@ Gives P r h who auth pairs =
 
 known_sound : (P : Who → Type 0) (r : LoginRules) (c : Call) (who : Who) (auth : Auth) (words : ChaCha) (front : List ℕ) (earlier pairs : List Pair)
     → Gives P r c.head who auth pairs → AreSound P (known_as r c who auth words front earlier pairs).answer
-known_sound P r c who auth words front earlier pairs give = go (refused_key (earlier ++ pairs)) where
-  go : (o : Option (List ℕ)) → AreSound P (settled r c who auth words front pairs (earlier ++ pairs) o).answer
-  go (Some key) = (refl, tt)
-  go None =
-      answered_sound P c who (negotiated target_offer (earlier ++ pairs)) front pairs (earlier ++ pairs) (authed r c.head auth who.discovers words pairs) (give words)
+known_sound P r c who auth words front earlier pairs give =
+    answered_sound P c who front pairs (earlier ++ pairs) (refused_key (earlier ++ pairs)) (authed r c.head auth who.discovers words pairs) (give words)
 
 away_sound : (P : Who → Type 0) (c : Call) (moved : Option Moved) → AreSound P (sent_away c moved)
 away_sound P c None = (refl, tt)

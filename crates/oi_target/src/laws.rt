@@ -3,8 +3,8 @@ ghost use Rattle.oi_target.specs.Runs.{AnswersAreReplies, CommandsInOrder, OwedA
 ghost use Rattle.oi_target.specs.Shown.{OnlyLoggedInAreServed, OnlyProvedLogIn};
 
 /// A target is a function of what came to it since it was made: connections that were accepted or are gone, listings, and the PDUs
-/// of each connection in the order in which they became whole. What it writes on each connection is, too, when it closes one, and what
-/// it will do.
+/// of each connection in the order in which they became whole. A malformed PDU has its place in that order where its header was whole.
+/// What the target writes on each connection is such a function, too, when it closes one, and what it will do.
 pub fn calls_are_events()
     ensures target { CoursesAreEvents }
     ensures written { WritesAreOfEvents }

@@ -166,10 +166,12 @@ abbrev pub response_text : LoginRequest → Params → List ℕ → Auth → Lis
 response_text h params front auth text pairs =
     ((front ++ text) ++ text_of (answers params pairs)) ++ text_of (declared_keys (ends_login h auth))
 
-abbrev pub answered : Call → Who → Params → List ℕ → List Pair → List Pair → Step → Answer
-answered c who params front pairs all (Fails s) = refused c s []
-answered c who params front pairs all (Stands auth text) =
-    answered_with c who params all auth (response_text c.head params front auth text pairs)
+-- where the authentication stands, all pairs settle the keys; a key with a bad value is looked at behind it
+abbrev pub answered : Call → Who → List ℕ → List Pair → List Pair → Option (List ℕ) → Step → Answer
+answered c who front pairs all key (Fails s) = refused c s []
+answered c who front pairs all (Some key) (Stands auth text) = refused c initiator_error []
+answered c who front pairs all None (Stands auth text) =
+    answered_with c who (negotiated target_offer all) all auth (response_text c.head (negotiated target_offer all) front auth text pairs)
 
 -- where the authentication stands after these pairs
 abbrev pub authed : LoginRules → LoginRequest → Auth → Bool → ChaCha → List Pair → Step
@@ -188,17 +190,12 @@ pub record Turn : Type 0 where
 abbrev pub undrawn : ChaCha → Answer → Turn
 undrawn words answer = record { answer = answer; words = words }
 
--- what the initiator said of itself: who it is, how far the authentication is, and its pairs in this request and in all
-abbrev pub settled : LoginRules → Call → Who → Auth → ChaCha → List ℕ → List Pair → List Pair → Option (List ℕ) → Turn
-settled r c who auth words front pairs all (Some key) = undrawn words (refused c initiator_error [])
-settled r c who auth words front pairs all None = record {
-  answer = answered c who (negotiated target_offer all) front pairs all (authed r c.head auth who.discovers words pairs);
+-- the initiator is known, how far its authentication is, and its pairs before this request and in it
+abbrev pub known_as : LoginRules → Call → Who → Auth → ChaCha → List ℕ → List Pair → List Pair → Turn
+known_as r c who auth words front earlier pairs = record {
+  answer = answered c who front pairs (earlier ++ pairs) (refused_key (earlier ++ pairs)) (authed r c.head auth who.discovers words pairs);
   words = words_after c.head auth words pairs;
 }
-
--- the initiator is known; all its pairs settle the keys
-abbrev pub known_as : LoginRules → Call → Who → Auth → ChaCha → List ℕ → List Pair → List Pair → Turn
-known_as r c who auth words front earlier pairs = settled r c who auth words front pairs (earlier ++ pairs) (refused_key (earlier ++ pairs))
 
 abbrev pub begun : LoginRules → Call → Auth → ChaCha → List Pair → List Pair → Naming → Turn
 begun r c auth words earlier pairs (Unknown s) = undrawn words (refused c s [])

@@ -1,5 +1,7 @@
 ghost use Rattle.std.specs.Prelude.{◌≡◌, ◌≤◌, ◌<◌, ◌^◌, IfOk, IfSome, OnOk, drop, length};
 ghost use Rattle.oi_target_login.specs.Logins.{answered, answered_with, authed, began, known_as, requested, response_text, sent_away, told, told_by, turned, words_after};
+ghost use Rattle.oi_negotiate.specs.Negotiated.{refused_key};
+ghost use Rattle.oi_target_login.specs.declared.chap.Step.TheVariants.{Stands};
 ghost use Rattle.oi_target_login.specs.Texts.{text_pairs};
 
 use crate::answer::{Answer, asked_on, closing, goes_on, opened, refused};
@@ -90,32 +92,40 @@ fn authed(
     }
 }
 
-// A request of an initiator that is known: all its pairs are settled so.
+// All pairs of an initiator. Those of the request that is answered stand behind so many others.
+#[derive(Debug, Drop)]
+struct Pairs {
+    all: Series<Pair>,
+    count: usize,
+}
+
+// The authentication stands, and its keys are answered by this text. All pairs of the initiator settle the others.
 fn settled(
     alloc: Global,
-    rules: &LoginRules,
     call: Call,
     who: Who,
-    auth: Auth,
-    words: &mut ChaCha20Rng,
     front: Vec<u8>,
-    count: usize,
-    all: Series<Pair>,
-    params: Params,
+    pairs: Pairs,
+    auth: Auth,
+    text: Blob,
 ) -> Result<Answer, NoMemory>
     requires turns { call.turns < 32 }
-    requires count { count ≤ length all }
-    ensures value { IfOk result (λ a. a ≡ answered call who params front.items (drop count all) all (authed rules.now call.head auth who.discovers words.old (drop count all))) }
-    ensures words { OnOk result (words.new ≡ words_after call.head auth words.old (drop count all)) }
+    requires count { pairs.count ≤ length pairs.all }
+    ensures value { IfOk result (λ a. a ≡ answered call who front.items (drop pairs.count pairs.all) pairs.all (refused_key pairs.all) (Stands auth text)) }
     ensures size { IfOk result (λ a. IfSome a.pdu (λ p. length p.payload < 2 ^ 24)) }
 {
-    let pairs = behind(all.as_slice(), count);
-    match authed(alloc, rules, call.head, auth, who.discovers, words, pairs)? {
-        Step::Fails(status) => Ok(refused(alloc, call, status, Blob::new(alloc))),
-        Step::Stands { auth, text } => {
+    let Pairs { all, count } = pairs;
+    match negotiate(alloc, &target_offer(), all.as_slice()) {
+        Ok(params) => {
+            let pairs = behind(all.as_slice(), count);
             let whole = response_text(call.head, params, front, auth, text, pairs)?;
             Ok(answered_with(alloc, call, who, params, all, auth, whole))
         }
+        Err(KeyFault::Bad { .. }) => {
+            let none = Blob::new(alloc);
+            Ok(refused(alloc, call, Status::INITIATOR_ERROR, none))
+        }
+        Err(KeyFault::Memory) => Err(NoMemory),
     }
 }
 
@@ -126,7 +136,7 @@ fn behind(pairs: &[Pair], count: usize) -> &[Pair]
     &pairs[count..]
 }
 
-// The initiator is known; all its pairs settle the keys.
+// The initiator is known. Its authentication is judged first.
 fn known_as(
     alloc: Global,
     rules: &LoginRules,
@@ -148,15 +158,13 @@ fn known_as(
     } = said;
     let count = earlier.as_slice().len();
     let all = joined(earlier, pairs)?;
-    match negotiate(alloc, &target_offer(), all.as_slice()) {
-        Ok(params) => settled(
-            alloc, rules, call, who, auth, words, front, count, all, params,
-        ),
-        Err(KeyFault::Bad { .. }) => {
-            let none = Blob::new(alloc);
-            Ok(refused(alloc, call, Status::INITIATOR_ERROR, none))
+    let pairs = behind(all.as_slice(), count);
+    match authed(alloc, rules, call.head, auth, who.discovers, words, pairs)? {
+        Step::Fails(status) => Ok(refused(alloc, call, status, Blob::new(alloc))),
+        Step::Stands { auth, text } => {
+            let pairs = Pairs { all, count };
+            settled(alloc, call, who, front, pairs, auth, text)
         }
-        Err(KeyFault::Memory) => Err(NoMemory),
     }
 }
 
