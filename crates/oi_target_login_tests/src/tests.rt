@@ -269,6 +269,12 @@ fn first_requests(rt: HostRuntime) -> Result<(), Fail> {
             (2, 0),
             (2, 0),
         ),
+        (
+            0x81,
+            b"InitiatorName=i\0TargetName=iqn.2024-01.org.example:d1\0AuthMethod=None\0MaxBurstLength=7\0".as_slice(),
+            (2, 1),
+            (2, 0),
+        ),
         (0x40, NOTHING, (0, 0), (0, 0)),
     ] {
         assert_eq!(rt; first_status(a, asking(a)?, flags, text)?, Some(asked));
