@@ -11,6 +11,7 @@ pub struct StdSink<W: Write + Drop> {
 impl<W: Write + Drop> StdSink<W> {
     ghost use Rattle.std.specs.Prelude.{◌≡◌};
 
+    /// Writes to this writer; nothing has failed yet.
     pub fn new(writer: W) -> StdSink<W>
         ensures writer { result.writer ≡ writer }
         ensures count { result.faults ≡ 0 }

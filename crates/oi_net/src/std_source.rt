@@ -11,6 +11,7 @@ pub struct StdSource<R: Read + Drop> {
 impl<R: Read + Drop> StdSource<R> {
     ghost use Rattle.std.specs.Prelude.{◌≡◌};
 
+    /// Reads from this reader; nothing has failed yet.
     pub fn new(reader: R) -> StdSource<R>
         ensures reader { result.reader ≡ reader }
         ensures count { result.faults ≡ 0 }

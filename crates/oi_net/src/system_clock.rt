@@ -16,6 +16,7 @@ pub struct SystemClock<R: RuntimeClock + Drop> {
 impl<R: RuntimeClock + Drop> SystemClock<R> {
     ghost use Rattle.std.specs.Prelude.{◌≡◌};
 
+    /// Counts from its first reading on.
     pub fn new(rt: R) -> SystemClock<R>
         ensures { result.last ≡ 0 }
     {

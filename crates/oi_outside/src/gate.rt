@@ -11,6 +11,7 @@ pub enum Place {
 
 /// A place at which a test may hold a worker. Passing it changes nothing that a contract sees. Workers share a gate.
 pub trait Gate: Sync {
+    /// A worker is at this place.
     fn pass(&self, place: Place);
 }
 

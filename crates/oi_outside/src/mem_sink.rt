@@ -31,6 +31,7 @@ impl Model for MemSink {
 impl MemSink {
     ghost use Rattle.std.specs.Prelude.{◌≡◌, [], IfOk};
 
+    /// Empty, with memory for `room` bytes. The writes and flushes whose number, from 0, stands in `fails` fail.
     pub fn new(alloc: Global, room: u32, fails: Series<u64>) -> Result<MemSink, NoMemory>
         ensures { IfOk result (λ s. s ≡ record { held = []; room = room; calls = 0; fails = fails; faults = 0 }) }
     {

@@ -30,6 +30,7 @@ impl Model for MemSource {
 impl MemSource {
     ghost use Rattle.std.specs.Prelude.{◌≡◌};
 
+    /// Gives these bytes. The reads whose number, from 0, stands in `fails` fail.
     pub fn new(bytes: Blob, fails: Series<u64>) -> MemSource
         ensures { result ≡ record { left = bytes; calls = 0; fails = fails; faults = 0 } }
     {

@@ -7,10 +7,9 @@ use std::alloc::{AllocError, Global};
 /// How links over memory hold their halves up.
 #[derive(Clone, Copy, Debug, PartialEq, Eq)]
 pub struct Schedule {
-    /// The most bytes that one read gives, at least 1.
+    /// How many bytes a read gives at most; 0 is not allowed.
     pub piece: u32,
-    /// Each call of a half whose number plus one is a multiple of this answers that it has to wait; 0 is never. The
-    /// calls of a half are numbered from 0.
+    /// Of the calls of a half one in so many has to wait; with 0 none has.
     pub not_yet_every: u32,
 }
 

@@ -17,6 +17,7 @@ pub trait Sink {
         ensures writes { Writes result piece.now (held self.old) (held self.new) }
         ensures count { IsCounted result (faults self.old) (faults self.new) };
 
+    /// Passes on what was taken and is still kept back. No contract tells how often it was called.
     fn flush(&mut self) -> Result<(), Failed>
         ensures held { held self.new ≡ held self.old }
         ensures count { IsCounted result (faults self.old) (faults self.new) };

@@ -127,7 +127,7 @@ Loses old generation cause (Err (StepSpent steps kept)) new =
     IsOn old generation × (is_cause old.config (now_of old) cause ≡ true) × IsSpent old (Lost generation cause ∷ []) steps kept new
 Loses old generation cause (Err StepMemory) new = new ≡ old
 
--- the clock is read; a reading below the last one counts as the last one, and after the end none counts
+-- the clock is read; one that falls is taken to stand still, and after the end no reading counts
 abbrev pub reading_of : Meanings → ℕ → ℕ
 reading_of m now = max now m.clock
 

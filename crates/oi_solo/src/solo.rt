@@ -80,7 +80,7 @@ impl Solo {
         calls::lost(&mut self.kept, generation, cause)
     }
 
-    /// The clock is read, in milliseconds. A reading below the last one counts as the last one.
+    /// The clock is read, in milliseconds. A clock that falls is taken to stand still.
     pub fn tick(&mut self, now: u64) -> Result<Ticked, StepRefused>
         requires { now < 2 ^ 53 }
         ensures { Ticks self.old now result self.new }
@@ -157,6 +157,7 @@ impl Solo {
         calls::clock(&self.kept)
     }
 
+    /// Where the session stands.
     pub fn phase(&self) -> Phase
         ensures phase { result ≡ (now_of self.now).phase }
         ensures legal { ArePermitted self.now.config self.now.history }
@@ -164,6 +165,7 @@ impl Solo {
         calls::phase(&self.kept)
     }
 
+    /// The command numbers: the next one, and what the target said of them (RFC 7143, section 4.2.2.1).
     pub fn window(&self) -> Window
         ensures { result ≡ (now_of self.now).window }
     {
