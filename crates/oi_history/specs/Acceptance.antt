@@ -1,7 +1,10 @@
 -- Which PDUs of the target count, and which break the connection (RFC 7143, section 7.13 on protocol errors).
-use Rattle.std.specs.Prelude.{ℕ, Bool, false, not, ◌==◌, ◌&&◌, ◌+◌, List, [], ◌∷◌, Option, Some, None, is_none, length, slice_index, nat_lt, if◌then◌else◌}
+use Rattle.std.specs.Prelude.{ℕ, Bool, false, not, ◌==◌, ◌&&◌, ◌+◌, List, [], ◌∷◌, Option, Some, None, is_none, length, slice_index, nat_lt, Result, Ok, Err, if◌then◌else◌}
 use Rattle.std.specs.Int.{from_be_bytes, w32}
 use Rattle.oi_base.specs.TagLayout.{reserved_tag}
+use Rattle.oi_buffer.specs.Placings.{Placed, place_answer}
+use Rattle.oi_buffer.specs.declared.fault.PlaceFault.{PlaceFault}
+use Rattle.oi_buffer.specs.declared.fault.PlaceFault.TheVariants.{Number, Offset, Range}
 use Rattle.oi_history.specs.Phases.{is_logged_in}
 use Rattle.oi_history.specs.Tasks.{held, is_live_on}
 use Rattle.oi_history.specs.declared.allocated.Allocated.{Allocated}
@@ -27,13 +30,20 @@ numbers_of (Async h) = Some (record { exp = h.exp; max = h.max; stat = Some h.st
 numbers_of (Reject h) = Some (record { exp = h.exp; max = h.max; stat = Some h.stat })
 numbers_of h = None
 
--- data for a submission: those of one that is live on the tag have to come in order and inside its length
+-- the data that the present try got
+abbrev pub placed_of : Task → Placed
+placed_of t = record { length = t.command.length; count = t.pieces; bytes = t.got }
+
+-- the rule that data broke
+abbrev pub place_rule : Result (Unit {0}) PlaceFault → Option Rule
+place_rule (Ok taken) = None
+place_rule (Err Number) = Some DataNumber
+place_rule (Err Offset) = Some DataOffset
+place_rule (Err Range) = Some DataRange
+
+-- data for a submission that is live on the tag have to come in order and inside its length
 abbrev pub live_data_rule : Task → DataIn → List ℕ → Option Rule
-live_data_rule t h payload =
-    if not (h.number == t.pieces) then Some DataNumber
-    else (if not (h.offset == length t.got) then Some DataOffset
-    else (if nat_lt t.command.length (h.offset + length payload) then Some DataRange
-    else None))
+live_data_rule t h payload = place_rule (place_answer (placed_of t) h.number h.offset (length payload))
 
 abbrev pub data_rule : Option Task → DataIn → List ℕ → Option Rule
 data_rule None h payload = Some UnknownTag

@@ -1,5 +1,6 @@
 pub mod Commands
 pub mod Configs
+pub mod Copies
 pub mod RuleWords
 pub mod Phases
 pub mod Tags

@@ -1,31 +1,25 @@
 ghost use Rattle.std.specs.Prelude.{◌≡◌, IfOk};
 ghost use Rattle.oi_base.specs.declared.login.Params.{Params};
-ghost use Rattle.oi_history.specs.Sending.{command_pdu, immediate_of, unsolicited_of};
+ghost use Rattle.oi_history.specs.Sending.{command_pdu, immediate_data, unsolicited_data};
 
 use crate::command::Command;
 use oi_base::{Blob, NoMemory, Params, Serial, Tag};
+use oi_buffer::{FirstCut, first_cut};
 use oi_pdu::{Header, Pdu, ScsiCommand};
 use oi_scsi::lun_bytes;
 use std::alloc::Global;
 
-fn immediate_of(params: Option<Params>, c: &Command) -> u32
-    ensures { result ≡ immediate_of params c.now }
+// What of a command goes out before the target asks.
+fn first_cut_of(params: Option<Params>, c: &Command) -> FirstCut
+    ensures immediate { result.immediate ≡ immediate_data params c.now }
+    ensures unsolicited { result.unsolicited ≡ unsolicited_data params c.now }
 {
     match params {
-        Some(p) if p.immediate && c.writes => c.length.min(p.first_burst.min(p.max_send)),
-        _ => 0,
-    }
-}
-
-fn unsolicited_of(params: Option<Params>, c: &Command) -> u32
-    ensures { result ≡ unsolicited_of params c.now }
-{
-    match params {
-        Some(p) if !p.initial_r2t && c.writes => c
-            .length
-            .min(p.first_burst)
-            .saturating_sub(immediate_of(params, c)),
-        _ => 0,
+        Some(p) if c.writes => first_cut(c.length, &p),
+        _ => FirstCut {
+            immediate: 0,
+            unsolicited: 0,
+        },
     }
 }
 
@@ -40,12 +34,12 @@ pub fn command_pdu(
 ) -> Result<Pdu, NoMemory>
     ensures { IfOk result (λ p. p ≡ command_pdu params stat c.now tag cmdsn) }
 {
-    let immediate = immediate_of(params, c) as usize;
+    let cut = first_cut_of(params, c);
     let written = c.written.as_slice();
-    let payload = Blob::from_slice(alloc, &written[..immediate.min(written.len())])?;
+    let payload = Blob::from_slice(alloc, &written[..written.len().min(cut.immediate as usize)])?;
     let head = ScsiCommand {
         immediate: false,
-        last: unsolicited_of(params, c) == 0,
+        last: cut.unsolicited == 0,
         reads: c.reads,
         writes: c.writes,
         attr: 1,

@@ -8,5 +8,5 @@ mod sense;
 mod tests;
 
 pub use descriptor::{cdb, lun_bytes};
-pub use request::{Kind, Request};
+pub use request::{Kind, Request, length};
 pub use sense::sense_of;

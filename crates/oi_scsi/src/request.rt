@@ -55,14 +55,7 @@ impl Kind {
     pub fn length(&self) -> u32
         ensures { result ≡ transfer_length self.now }
     {
-        match self {
-            Kind::Read { blocks, .. } | Kind::Write { blocks, .. } => BLOCK * *blocks as u32,
-            Kind::Inquiry => 36,
-            Kind::Capacity => 8,
-            Kind::Luns | Kind::ReserveIn { .. } => 264,
-            Kind::ReserveOut { .. } => RESERVE_OUT_LENGTH,
-            Kind::Unit | Kind::Sync => 0,
-        }
+        length(self)
     }
 
     /// Whether the target sends data for it.
@@ -116,6 +109,20 @@ impl Kind {
             Kind::ReserveIn { action } => *action < 32,
             Kind::Unit | Kind::Inquiry | Kind::Capacity | Kind::Luns | Kind::Sync => true,
         }
+    }
+}
+
+/// The bytes that a request moves, in either direction.
+pub fn length(kind: &Kind) -> u32
+    ensures { result ≡ transfer_length kind.now }
+{
+    match kind {
+        Kind::Read { blocks, .. } | Kind::Write { blocks, .. } => BLOCK * *blocks as u32,
+        Kind::Inquiry => 36,
+        Kind::Capacity => 8,
+        Kind::Luns | Kind::ReserveIn { .. } => 264,
+        Kind::ReserveOut { .. } => RESERVE_OUT_LENGTH,
+        Kind::Unit | Kind::Sync => 0,
     }
 }
 

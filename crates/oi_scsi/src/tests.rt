@@ -74,7 +74,11 @@ fn descriptor_blocks(rt: HostRuntime) -> Result<(), Fail> {
         ),
     ] {
         assert_eq!(rt; cdb(&kind), bytes, "{kind:?}");
-        assert_eq!(rt; kind.length(), length, "{kind:?}");
+        assert_eq!(rt;
+            (crate::length(&kind), kind.length()),
+            (length, length),
+            "{kind:?}"
+        );
         assert!(rt; kind.is_valid(), "{kind:?}");
     }
     assert!(rt;

@@ -1,9 +1,11 @@
-ghost use Rattle.std.specs.Prelude.{◌≡◌};
+ghost use Rattle.std.specs.Prelude.{◌≡◌, IfOk};
 ghost use Rattle.std.specs.Option.{option_copied};
 ghost use Rattle.oi_session_laws.specs.Answers.{outcome_if};
 
 use crate::kept::Kept;
-use oi_history::{Fate, Numbered, Outcome, Task};
+use oi_base::{NoMemory, Series};
+use oi_history::{Fate, Numbered, Outcome, Task, copy_entries};
+use std::alloc::Global;
 use std::marker::Model;
 
 /// What a session came to: its number, its settings, its entries by number, and what it handed out.
@@ -47,10 +49,17 @@ impl Run {
     }
 
     /// The entries in order of number.
-    pub fn events(&self) -> &[Numbered]
+    pub fn entries(&self) -> &[Numbered]
         ensures { result.now ≡ self.now.events }
     {
         self.kept.events.as_slice()
+    }
+
+    /// A copy of the entries, which can outlive the run.
+    pub fn events(&self, alloc: Global) -> Result<Series<Numbered>, NoMemory>
+        ensures { IfOk result (λ es. es ≡ self.now.events) }
+    {
+        copy_entries(alloc, self.entries())
     }
 
     /// How many requests came in.

@@ -219,78 +219,6 @@ fn write_all(pdu: &Option<Pdu>, out: &mut Vec<u8>) -> Result<(), NoMemory>
     write_pdu(pdu, out)
 }
 
-// An entry that sends. Others are not owed.
-fn copy_of(event: &Event) -> Option<Event>
-    ensures { IfSome result (λ e. e ≡ event.now) }
-{
-    match event {
-        Event::Push {
-            id,
-            generation,
-            ttt,
-            number,
-            offset,
-            length,
-            last,
-        } => Some(Event::Push {
-            id: *id,
-            generation: *generation,
-            ttt: *ttt,
-            number: *number,
-            offset: *offset,
-            length: *length,
-            last: *last,
-        }),
-        Event::Issue {
-            id,
-            generation,
-            tag,
-            cmdsn,
-        } => Some(Event::Issue {
-            id: *id,
-            generation: *generation,
-            tag: *tag,
-            cmdsn: *cmdsn,
-        }),
-        _ => request_of(event),
-    }
-}
-
-// A request that is no command.
-fn request_of(event: &Event) -> Option<Event>
-    ensures { IfSome result (λ e. e ≡ event.now) }
-{
-    match event {
-        Event::Manage {
-            generation,
-            tag,
-            function,
-            subject,
-        } => Some(Event::Manage {
-            generation: *generation,
-            tag: *tag,
-            function: *function,
-            subject: *subject,
-        }),
-        Event::Nop {
-            generation,
-            tag,
-            ttt,
-            lun,
-        } => Some(Event::Nop {
-            generation: *generation,
-            tag: *tag,
-            ttt: *ttt,
-            lun: *lun,
-        }),
-        Event::Logout { generation, tag } => Some(Event::Logout {
-            generation: *generation,
-            tag: *tag,
-        }),
-        _ => None,
-    }
-}
-
 /// Sends what is owed, behind the release of all ended tags.
 fn send(kept: &mut Kept, owed: Owed, out: &mut Vec<u8>) -> Result<Event, NoMemory>
     requires { CanTurn kept.old (Some owed) }
@@ -301,7 +229,7 @@ fn send(kept: &mut Kept, owed: Owed, out: &mut Vec<u8>) -> Result<Event, NoMemor
     ensures err { OnErr result (session_of kept.new ≡ session_of kept.old) }
     ensures quiet { OnErr result (out.new.items ≡ out.old.items) }
 {
-    let Some(event) = copy_of(&owed.send) else {
+    let Some(event) = owed.send.copy_sent() else {
         return Err(NoMemory);
     };
     write_owed(kept, &owed, out)?;

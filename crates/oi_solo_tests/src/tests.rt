@@ -346,10 +346,17 @@ fn refuses_behind_the_end(rt: &impl Abort, session: &mut Solo, cause: End) {
 
 // The run of one request that was answered so, with four entries.
 fn tells_outcome(rt: &impl Abort, run: &Run) {
-    assert_eq!(rt; (run.events().len(), run.submitted()), (4, 1));
+    assert_eq!(rt; (run.entries().len(), run.submitted()), (4, 1));
     let outcome = Outcome::Host(HostCode::NoConnect);
     assert!(rt; run.outcome(0) == Some(&outcome));
     assert!(rt; run.outcome(1).is_none());
+}
+
+fn copies_entries(rt: &impl Abort, alloc: Global, run: &Run) -> Result<(), Fail> {
+    let copies = run.events(alloc)?;
+    assert_eq!(rt; copies.as_slice().len(), run.entries().len());
+    assert!(rt; copies.as_slice() == run.entries());
+    Ok(())
 }
 
 #[test]
@@ -359,8 +366,9 @@ fn refusals_behind_the_end(rt: HostRuntime) -> Result<(), Fail> {
     refuses_behind_the_end(&rt, &mut session, End::Asked);
     let outcome = Outcome::Host(HostCode::NoConnect);
     delivers(&rt, rt.alloc(), &mut session, outcome)?;
-    tells_outcome(&rt, &session.close());
-    Ok(())
+    let run = session.close();
+    tells_outcome(&rt, &run);
+    copies_entries(&rt, rt.alloc(), &run)
 }
 
 // Sixteen entries of each half are kept back for the end.
