@@ -1,4 +1,4 @@
--- What a request comes to on the wire.
+-- What a request comes to on the wire (RFC 7143, section 11.3).
 use Rattle.oi_history.specs.declared.command.Command.{Command}
 use Rattle.oi_scsi.specs.Commands.{cdb_of}
 use Rattle.oi_scsi.specs.Requests.{transfer_length, reads, writes, written_data}

@@ -1,4 +1,4 @@
--- The numbers and parameters of a connection, and the rule that a PDU on it broke.
+-- The numbers and parameters of a connection, and the rule that a PDU on it broke (RFC 7143, sections 4.2.2.1, 4.2.2.2 and 7.13).
 use Rattle.std.specs.Prelude.{ℕ, Bool, Option, Some, None, if◌then◌else◌}
 use Rattle.std.specs.Option.{option_map_or}
 use Rattle.oi_base.specs.Serials.{successor}

@@ -1,4 +1,5 @@
--- The fifteen rules of a legal history, each read with the entries before.
+-- The fifteen rules of a legal history, each read with the entries before (RFC 7143: command numbers, section 4.2.2.1; data, 4.2.5.2 and
+-- 11.7; tags, 11.2.1.8; requests beside commands, 11.5, 11.14 and 11.18; lost connections, 7.14).
 use Rattle.std.specs.Prelude.{◌≡◌, ◌⊎◌, ◌≤◌, ◌<◌, ◌+◌, ◌++◌, ◌^◌, ℕ, true, false, List, [], ◌∷◌, Some, None, length, slice_get}
 use Rattle.oi_base.specs.Limits.{most_management_tags}
 use Rattle.oi_base.specs.TagLayout.{reserved_tag}

@@ -1,4 +1,4 @@
--- The phase of a session, and the generation of its connection.
+-- The phase of a session (RFC 7143, section 8.3), and the generation of its connection.
 use Rattle.std.specs.Prelude.{ℕ, Bool, true, false, ◌==◌}
 use Rattle.oi_history.specs.declared.event.Event.{Event}
 use Rattle.oi_history.specs.declared.event.Event.TheVariants.{Login}

@@ -1,4 +1,4 @@
--- What an entry makes of the submissions, by the recovery table.
+-- What an entry makes of the submissions, by the recovery table (RFC 7143, sections 7.14, 11.4 and 11.6).
 use Rattle.std.specs.Prelude.{ℕ, Bool, ◌==◌, ◌+◌, ◌++◌, List, [], ◌∷◌, length, map, if◌then◌else◌}
 use Rattle.oi_history.specs.Commands.{command_of}
 use Rattle.oi_history.specs.Courses.{is_at_once, is_fail_fast, is_overdue}

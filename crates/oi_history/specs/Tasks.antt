@@ -1,4 +1,4 @@
--- One submission: what an event makes of it, by the recovery table.
+-- One submission: what an event makes of it, by the recovery table (RFC 7143, sections 11.3, 11.4 and 11.7).
 use Rattle.std.specs.Prelude.{ℕ, Bool, true, false, not, ◌==◌, ◌&&◌, ◌+◌, ◌++◌, List, [], ◌∷◌, Option, slice_get, if◌then◌else◌, suc, zero}
 use Rattle.std.specs.Option.{option_and_then}
 use Rattle.oi_base.specs.Serials.{successor}

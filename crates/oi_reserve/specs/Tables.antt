@@ -1,4 +1,4 @@
--- The reservations of a logical unit: who is registered with which key, who holds, and the generation.
+-- The reservations of a logical unit: who is registered with which key, who holds, and the generation (SPC-4, section 5.13).
 use Rattle.std.specs.Prelude.{ℕ, ◌+◌, ◌%◌, ◌^◌, Bool, false, Option, Some, None, option_map, unwrap_or, List, [], bytes_eq, ◌==◌}
 use Rattle.std.specs.List.{find, list_any}
 use Rattle.oi_reserve.specs.declared.entry.Holder.{Holder}

@@ -1,4 +1,4 @@
--- Commands that came and were not executed yet.
+-- Commands that came and were not executed yet (RFC 7143, sections 4.2.2.1, 11.3 and 11.8).
 use Rattle.std.specs.Prelude.{ℕ, ◌+◌, Bool, true, false, not, ◌&&◌, ◌||◌, Option, Some, None, List, [], ◌∷◌, ◌++◌, length, min, nat_lt, ◌==◌, if◌then◌else◌}
 use Rattle.std.specs.List.{find, list_any}
 use Rattle.oi_base.specs.Serials.{successor}
