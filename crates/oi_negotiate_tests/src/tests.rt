@@ -42,190 +42,110 @@ fn bursts(max_burst: u32, first_burst: u32) -> Params {
     }
 }
 
+// What the target says, and the burst lengths that are settled.
+static BURSTS: [(&[u8], u32, u32); 9] = [
+    (b"", 262_144, 65_536),
+    (b"MaxBurstLength=65536\0", 65_536, 65_536),
+    (b"MaxBurstLength=0x10000\0", 65_536, 65_536),
+    (b"MaxBurstLength=512\0", 512, 512),
+    (b"MaxBurstLength=16777215\0", 16_776_192, 65_536),
+    (b"FirstBurstLength=0XFFff\0", 262_144, 65_535),
+    (b"FirstBurstLength=00000131072\0", 262_144, 131_072),
+    (b"FirstBurstLength=16777215\0", 262_144, 262_144),
+    (
+        b"MaxBurstLength=Irrelevant\0ImmediateData=NotUnderstood\0",
+        262_144,
+        65_536,
+    ),
+];
+
 #[test]
 fn settled_bursts(rt: HostRuntime) -> Result<(), Fail> {
-    let a = rt.alloc();
-    settles(&rt, a, b"".as_slice(), SILENT)?;
-    settles(
-        &rt,
-        a,
-        b"MaxBurstLength=65536\0".as_slice(),
-        bursts(65_536, 65_536),
-    )?;
-    settles(
-        &rt,
-        a,
-        b"MaxBurstLength=0x10000\0".as_slice(),
-        bursts(65_536, 65_536),
-    )?;
-    settles(&rt, a, b"MaxBurstLength=512\0".as_slice(), bursts(512, 512))?;
-    settles(
-        &rt,
-        a,
-        b"MaxBurstLength=16777215\0".as_slice(),
-        bursts(16_776_192, 65_536),
-    )?;
-    settles(
-        &rt,
-        a,
-        b"FirstBurstLength=0XFFff\0".as_slice(),
-        bursts(262_144, 65_535),
-    )?;
-    settles(
-        &rt,
-        a,
-        b"FirstBurstLength=00000131072\0".as_slice(),
-        bursts(262_144, 131_072),
-    )?;
-    settles(
-        &rt,
-        a,
-        b"FirstBurstLength=16777215\0".as_slice(),
-        bursts(262_144, 262_144),
-    )?;
-    settles(
-        &rt,
-        a,
-        b"MaxBurstLength=Irrelevant\0ImmediateData=NotUnderstood\0".as_slice(),
-        SILENT,
-    )?;
+    for (text, max_burst, first_burst) in &BURSTS {
+        settles(&rt, rt.alloc(), *text, bursts(*max_burst, *first_burst))?;
+    }
     Ok(())
 }
 
-#[test]
-fn settled_keys(rt: HostRuntime) -> Result<(), Fail> {
-    let a = rt.alloc();
-    settles(
-        &rt,
-        a,
-        b"InitialR2T=No\0".as_slice(),
+static KEYS: [(&[u8], Params); 10] = [
+    (
+        b"InitialR2T=No\0",
         Params {
             initial_r2t: false,
             ..SILENT
         },
-    )?;
-    settles(&rt, a, b"InitialR2T=Yes\0".as_slice(), SILENT)?;
-    settles(
-        &rt,
-        a,
-        b"ImmediateData=No\0".as_slice(),
+    ),
+    (b"InitialR2T=Yes\0", SILENT),
+    (
+        b"ImmediateData=No\0",
         Params {
             immediate: false,
             ..SILENT
         },
-    )?;
-    settles(
-        &rt,
-        a,
-        b"DefaultTime2Wait=3600\0".as_slice(),
+    ),
+    (
+        b"DefaultTime2Wait=3600\0",
         Params {
             time2wait: 3600,
             ..SILENT
         },
-    )?;
-    settles(&rt, a, b"DefaultTime2Wait=0\0".as_slice(), SILENT)?;
-    settles(
-        &rt,
-        a,
-        b"DefaultTime2Retain=9\0".as_slice(),
+    ),
+    (b"DefaultTime2Wait=0\0", SILENT),
+    (
+        b"DefaultTime2Retain=9\0",
         Params {
             time2retain: 0,
             ..SILENT
         },
-    )?;
-    settles(&rt, a, b"MaxOutstandingR2T=65535\0".as_slice(), SILENT)?;
-    settles(
-        &rt,
-        a,
-        b"MaxRecvDataSegmentLength=512\0".as_slice(),
+    ),
+    (b"MaxOutstandingR2T=65535\0", SILENT),
+    (
+        b"MaxRecvDataSegmentLength=512\0",
         Params {
             max_send: 512,
             ..SILENT
         },
-    )?;
-    settles(
-        &rt,
-        a,
-        b"MaxConnections=65535\0ErrorRecoveryLevel=2\0DataPDUInOrder=No\0".as_slice(),
+    ),
+    (
+        b"MaxConnections=65535\0ErrorRecoveryLevel=2\0DataPDUInOrder=No\0",
         SILENT,
-    )?;
-    settles(
-        &rt,
-        a,
-        b"HeaderDigest=None\0X-other=Reject\0X-other=1\0".as_slice(),
-        SILENT,
-    )?;
+    ),
+    (b"HeaderDigest=None\0X-other=Reject\0X-other=1\0", SILENT),
+];
+
+#[test]
+fn settled_keys(rt: HostRuntime) -> Result<(), Fail> {
+    for (text, wanted) in &KEYS {
+        settles(&rt, rt.alloc(), *text, *wanted)?;
+    }
     Ok(())
 }
 
+// What the target says, and the key for which it is refused.
+static REFUSED: [(&[u8], &[u8]); 11] = [
+    (b"HeaderDigest=CRC32C\0", b"HeaderDigest"),
+    (b"MaxBurstLength=511\0", b"MaxBurstLength"),
+    (b"MaxBurstLength=16777216\0", b"MaxBurstLength"),
+    (
+        b"MaxBurstLength=0x100000000000000000200\0",
+        b"MaxBurstLength",
+    ),
+    (b"ImmediateData=Reject\0", b"ImmediateData"),
+    (b"InitialR2T=yes\0", b"InitialR2T"),
+    (b"DefaultTime2Retain=0x\0", b"DefaultTime2Retain"),
+    (b"DefaultTime2Wait=3601\0", b"DefaultTime2Wait"),
+    (b"MaxOutstandingR2T=0\0", b"MaxOutstandingR2T"),
+    (b"InitialR2T=Irrelevant\0InitialR2T=Yes\0", b"InitialR2T"),
+    (
+        b"X=1\0ErrorRecoveryLevel=3\0MaxConnections=0\0",
+        b"ErrorRecoveryLevel",
+    ),
+];
+
 #[test]
 fn refused_keys(rt: HostRuntime) -> Result<(), Fail> {
-    let a = rt.alloc();
-    fails(
-        &rt,
-        a,
-        b"HeaderDigest=CRC32C\0".as_slice(),
-        b"HeaderDigest".as_slice(),
-    )?;
-    fails(
-        &rt,
-        a,
-        b"MaxBurstLength=511\0".as_slice(),
-        b"MaxBurstLength".as_slice(),
-    )?;
-    fails(
-        &rt,
-        a,
-        b"MaxBurstLength=16777216\0".as_slice(),
-        b"MaxBurstLength".as_slice(),
-    )?;
-    fails(
-        &rt,
-        a,
-        b"MaxBurstLength=0x100000000000000000200\0".as_slice(),
-        b"MaxBurstLength".as_slice(),
-    )?;
-    fails(
-        &rt,
-        a,
-        b"ImmediateData=Reject\0".as_slice(),
-        b"ImmediateData".as_slice(),
-    )?;
-    fails(
-        &rt,
-        a,
-        b"InitialR2T=yes\0".as_slice(),
-        b"InitialR2T".as_slice(),
-    )?;
-    fails(
-        &rt,
-        a,
-        b"DefaultTime2Retain=0x\0".as_slice(),
-        b"DefaultTime2Retain".as_slice(),
-    )?;
-    fails(
-        &rt,
-        a,
-        b"DefaultTime2Wait=3601\0".as_slice(),
-        b"DefaultTime2Wait".as_slice(),
-    )?;
-    fails(
-        &rt,
-        a,
-        b"MaxOutstandingR2T=0\0".as_slice(),
-        b"MaxOutstandingR2T".as_slice(),
-    )?;
-    fails(
-        &rt,
-        a,
-        b"InitialR2T=Irrelevant\0InitialR2T=Yes\0".as_slice(),
-        b"InitialR2T".as_slice(),
-    )?;
-    fails(
-        &rt,
-        a,
-        b"X=1\0ErrorRecoveryLevel=3\0MaxConnections=0\0".as_slice(),
-        b"ErrorRecoveryLevel".as_slice(),
-    )?;
+    for (text, key) in &REFUSED {
+        fails(&rt, rt.alloc(), *text, *key)?;
+    }
     Ok(())
 }
