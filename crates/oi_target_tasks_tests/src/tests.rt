@@ -41,34 +41,41 @@ fn pops(rt: &impl Abort, tasks: &mut Tasks, tag: Option<u32>) {
     assert_eq!(rt; next, tag);
 }
 
+// Commands one after another, and whether their tags were free.
+static COMMANDS: [(u32, u8, u32, bool); 7] = [
+    (9, 0, 0, true),
+    (2, 0, 8, true),
+    (3, 1, 4, true),
+    (4, 1, 0, true),
+    (2, 1, 0, false),
+    (1, 0, 0, true),
+    (5, 0, 4, true),
+];
+
+// Data for a tag, and whether more are asked for behind them.
+static PAYLOADS: [(u32, &[u8], bool); 6] = [
+    (2, &[1, 2], false),
+    (2, &[3, 4], true),
+    (2, &[5, 6, 7, 8], false),
+    (2, &[9], false),
+    (4, &[1], false),
+    (6, &[1], false),
+];
+
 #[test]
 fn commands_come_fill_and_go(rt: HostRuntime) -> Result<(), Fail> {
     let alloc = rt.alloc();
     let mut tasks = Tasks::new(alloc);
-    for (tag, unit, length, free) in [
-        (9, 0, 0, true),
-        (2, 0, 8, true),
-        (3, 1, 4, true),
-        (4, 1, 0, true),
-        (2, 1, 0, false),
-        (1, 0, 0, true),
-        (5, 0, 4, true),
-    ] {
-        assert_eq!(rt; push(alloc, &mut tasks, command(tag, unit, length))?, free);
+    for (tag, unit, length, free) in &COMMANDS {
+        let head = command(*tag, *unit, *length);
+        assert_eq!(rt; push(alloc, &mut tasks, head)?, *free);
     }
     pops(&rt, &mut tasks, Some(9));
     pops(&rt, &mut tasks, None);
     assert!(rt; tasks.is_busy(2));
     assert!(rt; !tasks.is_busy(9));
-    for (tag, payload, asks) in [
-        (2, &[1u8, 2] as &[u8], false),
-        (2, &[3, 4], true),
-        (2, &[5, 6, 7, 8], false),
-        (2, &[9], false),
-        (4, &[1], false),
-        (6, &[1], false),
-    ] {
-        assert_eq!(rt; tasks.fill(alloc, tag, payload, 8, 4)?, asks);
+    for (tag, payload, asks) in &PAYLOADS {
+        assert_eq!(rt; tasks.fill(alloc, *tag, *payload, 8, 4)?, *asks);
     }
     assert!(rt; tasks.waiting(2).is_none());
     for (tag, waited) in [(3, true), (3, false), (4, false), (6, false)] {
