@@ -31,100 +31,108 @@ fn is_for_disk(cdb: &[u8; 16]) -> bool
     cdb[0] != 0xa0 && cdb[0] != 0x5e && cdb[0] != 0x5f
 }
 
+const ZEROS: &[u8] = &[0; 512];
+
+const ONES: &[u8] = &[1; 512];
+
+// Commands one after another: what each sends, the sense code of its answer, and the data of that, block by block.
+static COMMANDS: [([u8; 16], &[u8], Option<u8>, &[&[u8]]); 13] = [
+    // WRITE(10) and READ(10) of the last block
+    (
+        [0x2a, 0, 0, 0, 0, 7, 0, 0, 1, 0, 0, 0, 0, 0, 0, 0],
+        ONES,
+        None,
+        &[],
+    ),
+    (
+        [0x28, 0, 0, 0, 0, 7, 0, 0, 1, 0, 0, 0, 0, 0, 0, 0],
+        b"",
+        None,
+        &[ONES],
+    ),
+    // one block past the end
+    (
+        [0x28, 0, 0, 0, 0, 7, 0, 0, 2, 0, 0, 0, 0, 0, 0, 0],
+        b"",
+        Some(0x21),
+        &[],
+    ),
+    (
+        [0x2a, 0, 0, 0, 0, 8, 0, 0, 1, 0, 0, 0, 0, 0, 0, 0],
+        ONES,
+        Some(0x21),
+        &[],
+    ),
+    // no blocks, at the end and past it
+    (
+        [0x28, 0, 0, 0, 0, 8, 0, 0, 0, 0, 0, 0, 0, 0, 0, 0],
+        b"",
+        None,
+        &[],
+    ),
+    (
+        [0x28, 0, 0, 0, 0, 9, 0, 0, 0, 0, 0, 0, 0, 0, 0, 0],
+        b"",
+        Some(0x21),
+        &[],
+    ),
+    // data one byte short
+    (
+        [0x2a, 0, 0, 0, 0, 6, 0, 0, 1, 0, 0, 0, 0, 0, 0, 0],
+        &[1; 511],
+        Some(0x24),
+        &[],
+    ),
+    // READ(16) of the last two blocks, and far past the end
+    (
+        [0x88, 0, 0, 0, 0, 0, 0, 0, 0, 6, 0, 0, 0, 2, 0, 0],
+        b"",
+        None,
+        &[ZEROS, ONES],
+    ),
+    (
+        [0x88, 0, 0, 0, 0, 1, 0, 0, 0, 6, 0, 0, 0, 2, 0, 0],
+        b"",
+        Some(0x21),
+        &[],
+    ),
+    // TEST UNIT READY, SYNCHRONIZE CACHE(10), READ CAPACITY(10)
+    ([0; 16], b"", None, &[]),
+    (
+        [0x35, 0, 0, 0, 0, 0, 0, 0, 0, 0, 0, 0, 0, 0, 0, 0],
+        b"",
+        None,
+        &[],
+    ),
+    (
+        [0x25, 0, 0, 0, 0, 0, 0, 0, 0, 0, 0, 0, 0, 0, 0, 0],
+        b"",
+        None,
+        &[&[0, 0, 0, 7, 0, 0, 2, 0]],
+    ),
+    // MODE SENSE(6)
+    (
+        [0x1a, 0, 0, 0, 0, 0, 0, 0, 0, 0, 0, 0, 0, 0, 0, 0],
+        b"",
+        Some(0x20),
+        &[],
+    ),
+];
+
 #[test]
 fn commands_one_after_another(rt: HostRuntime) -> Result<(), Fail> {
-    let mut disk = FlatDisk::new(rt.alloc(), 8)?;
-    let ones = [1u8; 512];
-    let mut last_two = [0u8; 1024];
-    last_two[512..].copy_from_slice(&ones);
-    let none = [0u8; 0];
-    for (cdb, payload, code, bytes) in [
-        // WRITE(10) and READ(10) of the last block
-        (
-            [0x2a, 0, 0, 0, 0, 7, 0, 0, 1, 0, 0, 0, 0, 0, 0, 0],
-            ones.as_slice(),
-            None,
-            none.as_slice(),
-        ),
-        (
-            [0x28, 0, 0, 0, 0, 7, 0, 0, 1, 0, 0, 0, 0, 0, 0, 0],
-            none.as_slice(),
-            None,
-            ones.as_slice(),
-        ),
-        // one block past the end
-        (
-            [0x28, 0, 0, 0, 0, 7, 0, 0, 2, 0, 0, 0, 0, 0, 0, 0],
-            none.as_slice(),
-            Some(0x21),
-            none.as_slice(),
-        ),
-        (
-            [0x2a, 0, 0, 0, 0, 8, 0, 0, 1, 0, 0, 0, 0, 0, 0, 0],
-            ones.as_slice(),
-            Some(0x21),
-            none.as_slice(),
-        ),
-        // no blocks, at the end and past it
-        (
-            [0x28, 0, 0, 0, 0, 8, 0, 0, 0, 0, 0, 0, 0, 0, 0, 0],
-            none.as_slice(),
-            None,
-            none.as_slice(),
-        ),
-        (
-            [0x28, 0, 0, 0, 0, 9, 0, 0, 0, 0, 0, 0, 0, 0, 0, 0],
-            none.as_slice(),
-            Some(0x21),
-            none.as_slice(),
-        ),
-        // data one byte short
-        (
-            [0x2a, 0, 0, 0, 0, 6, 0, 0, 1, 0, 0, 0, 0, 0, 0, 0],
-            &ones[..511],
-            Some(0x24),
-            none.as_slice(),
-        ),
-        // READ(16) of the last two blocks, and far past the end
-        (
-            [0x88, 0, 0, 0, 0, 0, 0, 0, 0, 6, 0, 0, 0, 2, 0, 0],
-            none.as_slice(),
-            None,
-            last_two.as_slice(),
-        ),
-        (
-            [0x88, 0, 0, 0, 0, 1, 0, 0, 0, 6, 0, 0, 0, 2, 0, 0],
-            none.as_slice(),
-            Some(0x21),
-            none.as_slice(),
-        ),
-        // TEST UNIT READY, SYNCHRONIZE CACHE(10), READ CAPACITY(10)
-        ([0; 16], none.as_slice(), None, none.as_slice()),
-        (
-            [0x35, 0, 0, 0, 0, 0, 0, 0, 0, 0, 0, 0, 0, 0, 0, 0],
-            none.as_slice(),
-            None,
-            none.as_slice(),
-        ),
-        (
-            [0x25, 0, 0, 0, 0, 0, 0, 0, 0, 0, 0, 0, 0, 0, 0, 0],
-            none.as_slice(),
-            None,
-            [0u8, 0, 0, 7, 0, 0, 2, 0].as_slice(),
-        ),
-        // MODE SENSE(6)
-        (
-            [0x1a, 0, 0, 0, 0, 0, 0, 0, 0, 0, 0, 0, 0, 0, 0, 0],
-            none.as_slice(),
-            Some(0x20),
-            none.as_slice(),
-        ),
-    ] {
-        let mut out = Vec::new(rt.alloc());
-        assert!(rt; is_for_disk(&cdb));
-        let answer = disk.answer(rt.alloc(), &cdb, payload, &mut out)?;
-        assert_answer(&rt, &answer, code);
-        assert_eq!(rt; out.as_slice(), bytes, "{cdb:?}");
+    let alloc = rt.alloc();
+    let mut disk = FlatDisk::new(alloc, 8)?;
+    for (cdb, payload, code, parts) in &COMMANDS {
+        let mut wanted = Vec::new(alloc);
+        for part in *parts {
+            wanted.extend_from_slice(*part)?;
+        }
+        let mut out = Vec::new(alloc);
+        assert!(rt; is_for_disk(cdb));
+        let answer = disk.answer(alloc, cdb, *payload, &mut out)?;
+        assert_answer(&rt, &answer, *code);
+        assert_eq!(rt; out.as_slice(), wanted.as_slice(), "{cdb:?}");
     }
     Ok(())
 }
