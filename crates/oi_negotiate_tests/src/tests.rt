@@ -67,6 +67,7 @@ fn settled_bursts(rt: HostRuntime) -> Result<(), Fail> {
     Ok(())
 }
 
+// What the target says, and what is settled.
 static KEYS: [(&[u8], Params); 10] = [
     (
         b"InitialR2T=No\0",
