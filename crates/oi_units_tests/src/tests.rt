@@ -33,6 +33,107 @@ const LUNS: [u8; 16] = [0xa0, 0, 0, 0, 0, 0, 0, 0, 1, 8, 0, 0, 0, 0, 0, 0];
 
 const READY: [u8; 16] = [0; 16];
 
+const CAPACITY_SENT: [u8; 8] = [0, 0, 3, 0xff, 0, 0, 2, 0];
+
+const LUNS_SENT: [u8; 24] = [
+    0, 0, 0, 16, 0, 0, 0, 0, 0, 0, 0, 0, 0, 0, 0, 0, 0, 1, 0, 0, 0, 0, 0, 0,
+];
+
+// A command without data for the target, and its reply. There is no unit 2.
+struct Exchange {
+    lun: u8,
+    cdb: [u8; 16],
+    reads: bool,
+    writes: bool,
+    length: u32,
+    status: u8,
+    residual: Residual,
+    sent: &'static [u8],
+}
+
+static EXCHANGES: [Exchange; 8] = [
+    Exchange {
+        lun: 1,
+        cdb: CAPACITY,
+        reads: true,
+        writes: false,
+        length: 8,
+        status: 0x00,
+        residual: Residual::Exact,
+        sent: &CAPACITY_SENT,
+    },
+    Exchange {
+        lun: 1,
+        cdb: CAPACITY,
+        reads: true,
+        writes: false,
+        length: 10,
+        status: 0x00,
+        residual: Residual::Under(2),
+        sent: &CAPACITY_SENT,
+    },
+    Exchange {
+        lun: 1,
+        cdb: CAPACITY,
+        reads: true,
+        writes: false,
+        length: 3,
+        status: 0x00,
+        residual: Residual::Over(5),
+        sent: &[0, 0, 3],
+    },
+    Exchange {
+        lun: 1,
+        cdb: CAPACITY,
+        reads: false,
+        writes: false,
+        length: 8,
+        status: 0x00,
+        residual: Residual::Over(8),
+        sent: &[],
+    },
+    Exchange {
+        lun: 1,
+        cdb: CAPACITY,
+        reads: true,
+        writes: true,
+        length: 8,
+        status: 0x00,
+        residual: Residual::Over(8),
+        sent: &[],
+    },
+    Exchange {
+        lun: 0,
+        cdb: LUNS,
+        reads: true,
+        writes: false,
+        length: 264,
+        status: 0x00,
+        residual: Residual::Under(240),
+        sent: &LUNS_SENT,
+    },
+    Exchange {
+        lun: 2,
+        cdb: READY,
+        reads: false,
+        writes: false,
+        length: 0,
+        status: 0x02,
+        residual: Residual::Exact,
+        sent: &[],
+    },
+    Exchange {
+        lun: 2,
+        cdb: READY,
+        reads: true,
+        writes: false,
+        length: 9,
+        status: 0x02,
+        residual: Residual::Under(9),
+        sent: &[],
+    },
+];
+
 #[test]
 fn residuals_and_lists(rt: HostRuntime) -> Result<(), Fail> {
     let nexus = Nexus {
@@ -41,63 +142,10 @@ fn residuals_and_lists(rt: HostRuntime) -> Result<(), Fail> {
     let mut units = two_units(rt.alloc())?;
     assert!(rt; units.has([0, 1, 0, 0, 0, 0, 0, 0]));
     assert!(rt; !units.has([0, 2, 0, 0, 0, 0, 0, 0]));
-    let capacity = [0, 0, 3, 0xff, 0, 0, 2, 0].as_slice();
-    let luns = [
-        0, 0, 0, 16, 0, 0, 0, 0, 0, 0, 0, 0, 0, 0, 0, 0, 0, 1, 0, 0, 0, 0, 0, 0,
-    ];
-    let none = [0u8; 0];
-    for (asked, status, residual, sent) in [
-        (
-            command(1, CAPACITY, true, false, 8),
-            0x00,
-            Residual::Exact,
-            capacity,
-        ),
-        (
-            command(1, CAPACITY, true, false, 10),
-            0x00,
-            Residual::Under(2),
-            capacity,
-        ),
-        (
-            command(1, CAPACITY, true, false, 3),
-            0x00,
-            Residual::Over(5),
-            [0u8, 0, 3].as_slice(),
-        ),
-        (
-            command(1, CAPACITY, false, false, 8),
-            0x00,
-            Residual::Over(8),
-            none.as_slice(),
-        ),
-        (
-            command(1, CAPACITY, true, true, 8),
-            0x00,
-            Residual::Over(8),
-            none.as_slice(),
-        ),
-        (
-            command(0, LUNS, true, false, 264),
-            0x00,
-            Residual::Under(240),
-            luns.as_slice(),
-        ),
-        (
-            command(2, READY, false, false, 0),
-            0x02,
-            Residual::Exact,
-            none.as_slice(),
-        ),
-        (
-            command(2, READY, true, false, 9),
-            0x02,
-            Residual::Under(9),
-            none.as_slice(),
-        ),
-    ] {
+    for row in &EXCHANGES {
+        let asked = command(row.lun, row.cdb, row.reads, row.writes, row.length);
         let reply = units.execute(rt.alloc(), &nexus, asked, &[])?;
-        is_answered(&rt, &reply, status, residual, sent);
+        is_answered(&rt, &reply, row.status, row.residual, row.sent);
     }
     Ok(())
 }
