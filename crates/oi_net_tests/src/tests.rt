@@ -60,42 +60,56 @@ fn folder_keeps_records(rt: HostRuntime) -> Result<(), Fail> {
     Ok(())
 }
 
+// Paths that name no record.
+static NO_RECORDS: [&str; 12] = [
+    "",
+    "/",
+    "a/",
+    "/a",
+    "a//b",
+    "./a/b",
+    "a/../a/b",
+    "..",
+    "../oi_net_outside",
+    "a/b/.",
+    "~0",
+    "a/b\0",
+];
+
+// A path where there is no record, and where none can be written.
+fn has_no_place<R: RecordStore>(rt: &impl Abort, store: &mut R, path: &str) {
+    assert_eq!(rt; store.read(path), Ok(None), "{path}");
+    assert_eq!(rt; store.remove(path), Ok(false), "{path}");
+    assert_eq!(rt;
+        store.write_whole(path, b"two"),
+        Err(StoreError::Failed),
+        "{path}"
+    );
+}
+
 #[test]
 fn folder_has_records_below_it_alone(rt: HostRuntime) -> Result<(), Fail> {
     let mut store = store_at(rt, "oi_net_paths")?;
     assert_eq!(rt; store.write_whole("a/b", b"one"), Ok(()));
-    for path in [
-        "",
-        "/",
-        "a/",
-        "/a",
-        "a//b",
-        "./a/b",
-        "a/../a/b",
-        "..",
-        "../oi_net_outside",
-        "a/b/.",
-        "~0",
-        "a/b\0",
-    ] {
-        assert!(rt; !names_record(path), "{path}");
-        assert_eq!(rt; store.read(path), Ok(None), "{path}");
-        assert_eq!(rt; store.remove(path), Ok(false), "{path}");
-        assert_eq!(rt;
-            store.write_whole(path, b"two"),
-            Err(StoreError::Failed),
-            "{path}"
-        );
+    for path in &NO_RECORDS {
+        assert!(rt; !names_record(*path), "{path}");
+        has_no_place(&rt, &mut store, *path);
     }
-    assert_eq!(rt; store.read("a"), Ok(None));
-    assert_eq!(rt; store.remove("a"), Ok(false));
-    assert_eq!(rt; store.write_whole("a", b"two"), Err(StoreError::Failed));
-    assert_eq!(rt; store.read("a/b/c"), Ok(None));
-    assert_eq!(rt; store.remove("a/b/c"), Ok(false));
-    assert_eq!(rt; store.write_whole("a/b/c", b"two"), Err(StoreError::Failed));
-    fs::write(&rt, "oi_net_paths/~0", b"half".as_slice())?;
-    symlink(&rt, "a", "oi_net_paths/link")?;
-    symlink(&rt, "a/b", "oi_net_paths/file")?;
+    has_no_place(&rt, &mut store, "a");
+    has_no_place(&rt, &mut store, "a/b/c");
+    lists(&rt, &mut store, &["a/b"]);
+    assert!(rt; !fs::exists(&rt, "oi_net_outside")?);
+    fs::remove_dir_all(&rt, "oi_net_paths")?;
+    Ok(())
+}
+
+#[test]
+fn folder_passes_over_links_and_half_records(rt: HostRuntime) -> Result<(), Fail> {
+    let mut store = store_at(rt, "oi_net_links")?;
+    assert_eq!(rt; store.write_whole("a/b", b"one"), Ok(()));
+    fs::write(&rt, "oi_net_links/~0", b"half".as_slice())?;
+    symlink(&rt, "a", "oi_net_links/link")?;
+    symlink(&rt, "a/b", "oi_net_links/file")?;
     lists(&rt, &mut store, &["a/b"]);
     assert_eq!(rt; store.read("link/b"), Ok(None));
     assert_eq!(rt; store.read("file"), Ok(None));
@@ -105,9 +119,8 @@ fn folder_has_records_below_it_alone(rt: HostRuntime) -> Result<(), Fail> {
     );
     assert_eq!(rt; store.write_whole("a/...", b"three"), Ok(()));
     lists(&rt, &mut store, &["a/...", "a/b"]);
-    assert!(rt; !fs::exists(&rt, "oi_net_paths/~1")?);
-    assert!(rt; !fs::exists(&rt, "oi_net_outside")?);
-    fs::remove_dir_all(&rt, "oi_net_paths")?;
+    assert!(rt; !fs::exists(&rt, "oi_net_links/~1")?);
+    fs::remove_dir_all(&rt, "oi_net_links")?;
     Ok(())
 }
 
