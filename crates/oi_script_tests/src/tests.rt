@@ -41,13 +41,21 @@ fn lines(rt: HostRuntime) {
 }
 
 #[test]
-fn requests(rt: HostRuntime) -> Result<(), Fail> {
+fn requests_without_blocks(rt: HostRuntime) {
     for (line, lun, kind) in [
         (b"unit 3".as_slice(), 3, Kind::Unit),
         (b"inquiry 0".as_slice(), 0, Kind::Inquiry),
         (b"capacity\t255".as_slice(), 255, Kind::Capacity),
         (b"luns 0".as_slice(), 0, Kind::Luns),
         (b"sync 0".as_slice(), 0, Kind::Sync),
+    ] {
+        assert_eq!(rt; read_drive(rt.alloc(), line), Ok(submit(lun, kind)));
+    }
+}
+
+#[test]
+fn requests_for_blocks(rt: HostRuntime) -> Result<(), Fail> {
+    for (line, lun, kind) in [
         (
             b"read 0 16 8".as_slice(),
             0,
@@ -70,9 +78,17 @@ fn requests(rt: HostRuntime) -> Result<(), Fail> {
                 payload: Blob::from_vec(vec![in rt.alloc(); 0x5au8; 512]?),
             },
         ),
+    ] {
+        assert_eq!(rt; read_drive(rt.alloc(), line), Ok(submit(lun, kind)));
+    }
+    Ok(())
+}
+
+#[test]
+fn reservations(rt: HostRuntime) {
+    for (line, kind) in [
         (
             b"prout 0 register 0 0000000000000000 00000000000000aa".as_slice(),
-            0,
             Kind::ReserveOut {
                 action: 0,
                 form: 0,
@@ -82,7 +98,6 @@ fn requests(rt: HostRuntime) -> Result<(), Fail> {
         ),
         (
             b"prout 0 ignore 15 0123456789ABCDEF 0000000000000000".as_slice(),
-            0,
             Kind::ReserveOut {
                 action: 6,
                 form: 15,
@@ -90,82 +105,40 @@ fn requests(rt: HostRuntime) -> Result<(), Fail> {
                 new_key: 0,
             },
         ),
-        (b"prin 0 keys".as_slice(), 0, Kind::ReserveIn { action: 0 }),
+        (b"prin 0 keys".as_slice(), Kind::ReserveIn { action: 0 }),
         (
             b"prin 0 reservation".as_slice(),
-            0,
             Kind::ReserveIn { action: 1 },
         ),
     ] {
-        assert_eq!(rt; read_drive(rt.alloc(), line), Ok(submit(lun, kind)));
+        assert_eq!(rt; read_drive(rt.alloc(), line), Ok(submit(0, kind)));
     }
-    Ok(())
 }
+
+// A line, the name that it sets, and the value.
+static SETTINGS: [(&[u8], &[u8], i64); 13] = [
+    (b"set tries 255", b"tries", 255),
+    (b"set replacement -1", b"replacement", -1),
+    (b"set replacement 86400", b"replacement", 86_400),
+    (b"set noop_out_interval 0", b"noop_out_interval", 0),
+    (b"set noop_out_timeout 1", b"noop_out_timeout", 1),
+    (b"set abort_timeout 3600", b"abort_timeout", 3600),
+    (b"set lu_reset_timeout 30", b"lu_reset_timeout", 30),
+    (b"set tgt_reset_timeout 30", b"tgt_reset_timeout", 30),
+    (b"set cmds_max 2048", b"cmds_max", 2048),
+    (b"set steps 64", b"steps", 64),
+    (b"set kept 134217728", b"kept", 134_217_728),
+    (b"set queue_depth 1024", b"queue_depth", 1024),
+    (b"set count_disrupted 0", b"count_disrupted", 0),
+];
 
 #[test]
 fn settings(rt: HostRuntime) -> Result<(), Fail> {
-    for (line, name, value) in [
-        (b"set tries 255".as_slice(), b"tries".as_slice(), 255),
-        (
-            b"set replacement -1".as_slice(),
-            b"replacement".as_slice(),
-            -1,
-        ),
-        (
-            b"set replacement 86400".as_slice(),
-            b"replacement".as_slice(),
-            86_400,
-        ),
-        (
-            b"set noop_out_interval 0".as_slice(),
-            b"noop_out_interval".as_slice(),
-            0,
-        ),
-        (
-            b"set noop_out_timeout 1".as_slice(),
-            b"noop_out_timeout".as_slice(),
-            1,
-        ),
-        (
-            b"set abort_timeout 3600".as_slice(),
-            b"abort_timeout".as_slice(),
-            3600,
-        ),
-        (
-            b"set lu_reset_timeout 30".as_slice(),
-            b"lu_reset_timeout".as_slice(),
-            30,
-        ),
-        (
-            b"set tgt_reset_timeout 30".as_slice(),
-            b"tgt_reset_timeout".as_slice(),
-            30,
-        ),
-        (
-            b"set cmds_max 2048".as_slice(),
-            b"cmds_max".as_slice(),
-            2048,
-        ),
-        (b"set steps 64".as_slice(), b"steps".as_slice(), 64),
-        (
-            b"set kept 134217728".as_slice(),
-            b"kept".as_slice(),
-            134_217_728,
-        ),
-        (
-            b"set queue_depth 1024".as_slice(),
-            b"queue_depth".as_slice(),
-            1024,
-        ),
-        (
-            b"set count_disrupted 0".as_slice(),
-            b"count_disrupted".as_slice(),
-            0,
-        ),
-    ] {
-        let name = Label::from_slice(rt.alloc(), name)?;
+    for (line, name, value) in &SETTINGS {
+        let name = Label::from_slice(rt.alloc(), *name)?;
+        let value = *value;
         assert_eq!(rt;
-            read_drive(rt.alloc(), line),
+            read_drive(rt.alloc(), *line),
             Ok(DriveLine::Set { name, value })
         );
     }
