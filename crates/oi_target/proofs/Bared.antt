@@ -1,13 +1,15 @@
 -- What a target does asks for no bytes of its connections, and for none that was ended.
-use Rattle.std.proofs.Common.{ℕ, ◌≡◌, ◌∙◌, Some, List, [], ◌∷◌, map, refl, ap, sym}
+use Rattle.std.proofs.Common.{ℕ, ◌≡◌, ◌∙◌, Some, None, List, [], ◌∷◌, ◌++◌, map, refl, ap, sym, subst}
 use Rattle.oi_pdu.specs.declared.codec.Pdu.{Pdu}
 use Rattle.oi_stream.specs.Feeding.{State}
 use Rattle.oi_target.proofs.Learned.{link_reached, relearned}
+use Rattle.oi_target.proofs.Told.{AreTold, step_told}
 use Rattle.oi_target.proofs.Placed.{link_map, link_placed, over, placed_map, placed_same, placed_twice}
 use Rattle.oi_target.specs.Events.{bare, bare_link, heard, shut}
 use Rattle.oi_target.specs.Feeding.{put_back}
-use Rattle.oi_target.specs.Steps.{Step, logged_in_by, one_then, reached, received_by, stepped, steps, with_words}
+use Rattle.oi_target.specs.Steps.{Step, behind, logged_in_by, one_then, received_by, served_as, serving_by, stepped, steps, with_words}
 use Rattle.oi_target.specs.Targets.{Learned, Reached, Target, aside, closed_link, ended_by, ended_standing, learned, link_at, link_of, nexus_of, no_bytes, placed, reached_behind, reset_each, reset_links, with_links}
+use Rattle.oi_target.specs.Turns.{Received, followed, in_turn, reached, received_at, received_turn, told, turn_of}
 use Rattle.oi_target.specs.declared.link.Link.{Link}
 use Rattle.oi_target.specs.declared.link.Standing.{Standing}
 use Rattle.oi_target.specs.declared.link.Standing.TheVariants as standing
@@ -15,8 +17,13 @@ use Rattle.oi_target_login.specs.Logins.{turned}
 use Rattle.oi_target_login.specs.declared.answer.Answer.{Answer}
 use Rattle.oi_target_login.specs.declared.answer.Verdict.{Verdict}
 use Rattle.oi_target_login.specs.declared.answer.Verdict.TheVariants as verdict
+use Rattle.oi_target_session.specs.Arrivals.{Held, advanced, place_of}
+use Rattle.oi_target_session.specs.Owing.{owed_pdus, paid}
+use Rattle.oi_target_session.specs.Sessions.{Session, Turn, without_resets}
 use Rattle.oi_target_session.specs.declared.fed.Fed.{Fed}
 use Rattle.oi_target_session.specs.declared.fed.Fed.TheVariants.{Going, Closed}
+use Rattle.oi_target_session.specs.declared.place.Place.{Place}
+use Rattle.oi_target_session.specs.declared.place.Place.TheVariants.{Now, InTurn, Early, Outside}
 use Rattle.oi_target_session.specs.declared.reset.Reset.{Reset}
 use Rattle.oi_units.specs.declared.unit.LogicalUnit.{LogicalUnit}
 
@@ -91,16 +98,92 @@ login_alike t a (verdict.Done s) = record {
   fed = refl;
 }
 
+-- two outcomes of a PDU that differ in bytes alone
+record AreNear (a b : Received) : Type 0 where
+  pub target : bare a.target ≡ bare b.target
+  pub session : a.session ≡ b.session
+  pub held : a.held ≡ b.held
+  pub sent : a.sent ≡ b.sent
+  pub fed : a.fed ≡ b.fed
+
+-- both are near the same one
+near_both : (a b c : Received) → AreNear a b → AreNear a c → AreNear b c
+near_both a b c x y = record {
+  target = sym x.target ∙ y.target;
+  session = sym x.session ∙ y.session;
+  held = sym x.held ∙ y.held;
+  sent = sym x.sent ∙ y.sent;
+  fed = sym x.fed ∙ y.fed;
+}
+
+told_bare : (t : Target) (turn : Turn) → bare (told (bare t) turn) ≡ bare (told t turn)
+told_bare t turn = ap (λ (z : Reached). reached t z) (resets_bare turn.session.resets turn.units t.links)
+
+turn_near : (t : Target) (held : Held) (turn : Turn) → AreNear (received_turn (bare t) held turn) (received_turn t held turn)
+turn_near t held turn = record { target = told_bare t turn; session = refl; held = refl; sent = refl; fed = refl }
+
+in_turn_near : (t : Target) (s : Session) (p : Pdu) (held : Held) → AreNear (in_turn (bare t) s p held) (in_turn t s p held)
+in_turn_near t s p [] = turn_near t [] (turn_of t (advanced s) p)
+in_turn_near t s p (None ∷ held) = turn_near t held (turn_of t (advanced s) p)
+in_turn_near t s p (Some next ∷ held) = go turn.fed (near_both (in_turn (bare barely) behind_it next held) (in_turn barely behind_it next held)
+    (in_turn fully behind_it next held) (in_turn_near barely behind_it next held)
+    (subst (λ (z : Target). AreNear (in_turn z behind_it next held) (in_turn fully behind_it next held)) (sym (told_bare t turn))
+    (in_turn_near fully behind_it next held))) where
+      turn : Turn
+      turn = turn_of t (advanced s) p
+
+      behind_it : Session
+      behind_it = without_resets turn.session
+
+      barely : Target
+      barely = told (bare t) turn
+
+      fully : Target
+      fully = told t turn
+
+      go : (f : Fed) → AreNear (in_turn barely behind_it next held) (in_turn fully behind_it next held)
+          → AreNear (followed f (received_turn (bare t) held turn) (in_turn barely behind_it next held)) (followed f (received_turn t held turn) (in_turn fully behind_it next held))
+      go Closed near = turn_near t held turn
+      go Going near = record {
+        target = near.target;
+        session = near.session;
+        held = near.held;
+        sent = ap (λ (z : List Pdu). turn.sent ++ z) near.sent;
+        fed = near.fed;
+      }
+
+received_near : (place : Place) (t : Target) (s : Session) (held : Held) (p : Pdu) → AreNear (received_at place (bare t) s held p) (received_at place t s held p)
+received_near Now t s held p = turn_near t held (turn_of t s p)
+received_near InTurn t s held p = in_turn_near t s p held
+received_near (Early at) t s held p =
+    record { target = ap (λ (z : List Link). with_links t z) (bare_twice t.links); session = refl; held = refl; sent = refl; fed = refl }
+received_near Outside t s held p =
+    record { target = ap (λ (z : List Link). with_links t z) (bare_twice t.links); session = refl; held = refl; sent = refl; fed = refl }
+
+serving_near : (a b : Received) → AreNear a b → serving_by a.fed a ≡ serving_by b.fed b
+serving_near a b near =
+    ap (λ (z : Fed). serving_by z a) near.fed ∙ go b.fed where
+      go : (f : Fed) → serving_by f a ≡ serving_by f b
+      go Closed = refl
+      go Going =
+          ap (λ (z : Session). standing.Serving (record { session = z; held = a.held; owed = [] })) near.session
+          ∙ ap (λ (z : Held). standing.Serving (record { session = b.session; held = z; owed = [] })) near.held
+
+served_near : (sent : List Pdu) (a b : Received) → AreNear a b → AreAlike (behind sent (served_as a)) (behind sent (served_as b))
+served_near sent a b near =
+    record { target = near.target; standing = serving_near a b near; sent = ap (λ (z : List Pdu). sent ++ z) near.sent; fed = near.fed }
+
 pub step_alike : (t : Target) (s : Standing) (p : Pdu) → AreAlike (stepped (bare t) s p) (stepped t s p)
 step_alike t (standing.LoggingIn login) p =
     login_alike (with_words t (turned t.rules t.handle login p t.words).words) (turned t.rules t.handle login p t.words).answer
     (turned t.rules t.handle login p t.words).answer.verdict
-step_alike t (standing.Serving v) p = record {
-  target = ap (λ (z : Reached). reached t z) (resets_bare (received_by v t p).session.resets (received_by v t p).units t.links);
-  standing = refl;
-  sent = refl;
-  fed = refl;
-}
+step_alike t (standing.Serving v) p = served_near (owed_pdus v.session v.owed) (received_at place (bare t) s v.held p) (received_at place t s v.held p)
+    (received_near place t s v.held p) where
+      place : Place
+      place = place_of v.session.discovers v.session.numbers.exp.0 p.head
+
+      s : Session
+      s = paid v.session v.owed
 step_alike t standing.Ended p = record { target = ap (λ (z : List Link). with_links t z) (bare_twice t.links); standing = refl; sent = refl; fed = refl }
 step_alike t standing.Closed p = record { target = ap (λ (z : List Link). with_links t z) (bare_twice t.links); standing = refl; sent = refl; fed = refl }
 
@@ -139,18 +222,19 @@ aside_ended n nexus ls a = record {
   closed = ap (ended_standing nexus) a.closed;
 }
 
-aside_resets : (n : ℕ) (resets : List Reset) (units : List LogicalUnit) (ls : List Link) → IsAside n ls → IsAside n (reset_links resets units ls).links
-aside_resets n [] units ls a = a
-aside_resets n (reset ∷ resets) units ls a = aside_resets n resets all.units all.links (record {
+aside_each : (n : ℕ) (reset : Reset) (units : List LogicalUnit) (ls : List Link) → IsAside n ls → IsAside n (reset_each reset units ls).links
+aside_each n reset units ls a = record {
   link = relearned reset found.0 a.link;
   found = found.1 ∙ ap (over (relearned reset found.0)) a.found;
   closed = ap (λ (s : Standing). (learned reset found.0 s).standing) a.closed;
-}) where
-  all : Reached
-  all = reset_each reset units ls
-
-  found : (u : List LogicalUnit) × (link_of n all.links ≡ over (relearned reset u) (link_of n ls))
+} where
+  found : (u : List LogicalUnit) × (link_of n (reset_each reset units ls).links ≡ over (relearned reset u) (link_of n ls))
   found = link_reached n reset units ls
+
+aside_told : (n : ℕ) (resets : List Reset) (ls ks : List Link) → AreTold resets ls ks → IsAside n ls → IsAside n ks
+aside_told n [] ls ks told a = subst (λ (z : List Link). IsAside n z) (sym told) a
+aside_told n (reset ∷ resets) ls ks told a =
+    aside_told n resets (reset_each reset told.0 ls).links ks told.1 (aside_each n reset told.0 ls a)
 
 aside_login : (n : ℕ) (t : Target) (a : Answer) (v : Verdict) → IsAside n t.links → IsAside n (logged_in_by t a v).target.links
 aside_login n t a verdict.Going h = h
@@ -161,7 +245,7 @@ pub aside_step : (n : ℕ) (t : Target) (s : Standing) (p : Pdu) → IsAside n t
 aside_step n t (standing.LoggingIn login) p h =
     aside_login n (with_words t (turned t.rules t.handle login p t.words).words) (turned t.rules t.handle login p t.words).answer
     (turned t.rules t.handle login p t.words).answer.verdict h
-aside_step n t (standing.Serving v) p h = aside_resets n (received_by v t p).session.resets (received_by v t p).units t.links h
+aside_step n t (standing.Serving v) p h = aside_told n (received_by v t p).resets t.links (received_by v t p).target.links (step_told t v p).links h
 aside_step n t standing.Ended p h = h
 aside_step n t standing.Closed p h = h
 

@@ -12,4 +12,5 @@ pub mod Placed
 pub mod Places
 pub mod Shown
 pub mod Stays
+pub mod Told
 pub mod Walked

@@ -1,8 +1,9 @@
 -- The connections of a target keep their numbers and their bytes while PDUs of one of them are served.
 use Rattle.std.proofs.Common.{ℕ, Bool, true, false, ◌≡◌, ◌∙◌, Some, None, List, [], ◌∷◌, map, refl, ap, sym, subst, if◌then◌else◌, ◌==◌}
 use Rattle.oi_pdu.specs.declared.codec.Pdu.{Pdu}
+use Rattle.oi_target.proofs.Told.{AreTold, step_told}
 use Rattle.oi_target.specs.Steps.{Step, logged_in_by, one_then, received_by, stepped, steps, with_words}
-use Rattle.oi_target.specs.Targets.{Reached, Target, ended_by, ended_standing, learned, link_of, nexus_of, reset_each, reset_links}
+use Rattle.oi_target.specs.Targets.{Target, ended_by, ended_standing, learned, link_of, nexus_of, reset_each}
 use Rattle.oi_target.specs.declared.link.Link.{Link}
 use Rattle.oi_target.specs.declared.link.Standing.{Standing}
 use Rattle.oi_target.specs.declared.link.Standing.TheVariants as standing
@@ -67,11 +68,10 @@ each_kept reset units [] = tt
 each_kept reset units (l ∷ ls) =
     (record { number = refl; splitter = refl; opens = learned_opens reset units l.standing }, each_kept reset (learned reset units l.standing).units ls)
 
-resets_kept : (resets : List Reset) (units : List LogicalUnit) (ls : List Link) → AreKept ls (reset_links resets units ls).links
-resets_kept [] units ls = kept_all ls
-resets_kept (reset ∷ resets) units ls =
-    let one : Reached = reset_each reset units ls in
-    kept_through ls one.links (reset_links resets one.units one.links).links (each_kept reset units ls) (resets_kept resets one.units one.links)
+told_kept : (resets : List Reset) (ls ks : List Link) → AreTold resets ls ks → AreKept ls ks
+told_kept [] ls ks told = subst (λ (z : List Link). AreKept ls z) (sym told) (kept_all ls)
+told_kept (reset ∷ resets) ls ks told =
+    kept_through ls (reset_each reset told.0 ls).links ks (each_kept reset told.0 ls) (told_kept resets (reset_each reset told.0 ls).links ks told.1)
 
 login_kept : (t : Target) (a : Answer) (v : Verdict) → AreKept t.links (logged_in_by t a v).target.links
 login_kept t a verdict.Going = kept_all t.links
@@ -82,7 +82,7 @@ step_kept : (t : Target) (s : Standing) (p : Pdu) → AreKept t.links (stepped t
 step_kept t (standing.LoggingIn login) p =
     login_kept (with_words t (turned t.rules t.handle login p t.words).words) (turned t.rules t.handle login p t.words).answer
     (turned t.rules t.handle login p t.words).answer.verdict
-step_kept t (standing.Serving v) p = resets_kept (received_by v t p).session.resets (received_by v t p).units t.links
+step_kept t (standing.Serving v) p = told_kept (received_by v t p).resets t.links (received_by v t p).target.links (step_told t v p).links
 step_kept t standing.Ended p = kept_all t.links
 step_kept t standing.Closed p = kept_all t.links
 

@@ -5,3 +5,4 @@ pub mod Runs
 pub mod Shown
 pub mod Steps
 pub mod Targets
+pub mod Turns

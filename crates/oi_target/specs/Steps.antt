@@ -1,7 +1,8 @@
 -- What becomes of the PDUs of one connection. The target's links are those of the other connections.
 use Rattle.std.specs.Prelude.{Bool, true, false, List, [], ◌∷◌, ◌++◌, map}
 use Rattle.oi_pdu.specs.declared.codec.Pdu.{Pdu}
-use Rattle.oi_target.specs.Targets.{Reached, Target, ended_by, next_handle, nexus_of, reset_links, session_of}
+use Rattle.oi_target.specs.Targets.{Target, ended_by, next_handle, nexus_of, session_of}
+use Rattle.oi_target.specs.Turns.{Received, received}
 use Rattle.oi_target.specs.declared.link.Serving.{Serving}
 use Rattle.oi_target.specs.declared.link.Standing.{Standing}
 use Rattle.oi_target.specs.declared.link.Standing.TheVariants as standing
@@ -11,9 +12,7 @@ use Rattle.oi_target_login.specs.declared.answer.Answer.{Answer}
 use Rattle.oi_target_login.specs.declared.answer.NewSession.{NewSession}
 use Rattle.oi_target_login.specs.declared.answer.Verdict.{Verdict}
 use Rattle.oi_target_login.specs.declared.answer.Verdict.TheVariants as verdict
-use Rattle.oi_target_session.specs.Arrivals.{Received, received}
 use Rattle.oi_target_session.specs.Owing.{owed_pdus, paid}
-use Rattle.oi_target_session.specs.Sessions.{without_resets}
 use Rattle.oi_target_session.specs.declared.fed.Fed.{Fed}
 use Rattle.oi_target_session.specs.declared.fed.Fed.TheVariants.{Going, Closed}
 use Rattle.rand_chacha.specs.ChaCha.{ChaCha}
@@ -48,28 +47,25 @@ logged_in_by t a (verdict.Done s) =
 abbrev pub logged_in : Target → Turn → Step
 logged_in t turn = logged_in_by (with_words t turn.words) turn.answer turn.answer.verdict
 
+-- where a connection stands behind a PDU of its session
 abbrev pub serving_by : Fed → Received → Standing
 serving_by Closed r = standing.Closed
-serving_by Going r = standing.Serving (record { session = without_resets r.session; held = r.held; owed = [] })
+serving_by Going r = standing.Serving (record { session = r.session; held = r.held; owed = [] })
 
--- a PDU of a session
-abbrev pub reached : Target → Reached → Target
-reached t r = record t { units = r.units; links = r.links }
-
-abbrev pub served_as : Target → Received → Step
-served_as t r = step_of (reached t (reset_links r.session.resets r.units t.links)) (serving_by r.fed r) r.sent r.fed
+abbrev pub served_as : Received → Step
+served_as r = step_of r.target (serving_by r.fed r) r.sent r.fed
 
 abbrev pub behind : List Pdu → Step → Step
 behind sent s = step_of s.target s.standing (sent ++ s.sent) s.fed
 
 -- what is owed goes out before it
 abbrev pub received_by : Serving → Target → Pdu → Received
-received_by v t pdu = received (paid v.session v.owed) t.units t.listing v.held pdu
+received_by v t pdu = received t (paid v.session v.owed) v.held pdu
 
 -- one PDU
 abbrev pub stepped : Target → Standing → Pdu → Step
 stepped t (standing.LoggingIn p) pdu = logged_in t (turned t.rules t.handle p pdu t.words)
-stepped t (standing.Serving v) pdu = behind (owed_pdus v.session v.owed) (served_as t (received_by v t pdu))
+stepped t (standing.Serving v) pdu = behind (owed_pdus v.session v.owed) (served_as (received_by v t pdu))
 stepped t standing.Ended pdu = closing t []
 stepped t standing.Closed pdu = closing t []
 

@@ -2,7 +2,10 @@ ghost use Rattle.std.specs.Prelude.{◌≡◌, ◌++◌, [], bytes_eq, map, IfOk
 ghost use Rattle.oi_target.specs.Feeding.{wire};
 ghost use Rattle.oi_target.specs.Steps.{Step, logged_in, logged_in_by, opening, served_as, stepped, steps, with_words};
 ghost use Rattle.oi_target.specs.Targets.{ended_by, ended_standing, learned, limits_of, link_at, next_handle, nexus_of, reset_each, reset_links, session_of, with_links};
+ghost use Rattle.oi_target.specs.Turns.{in_turn, received, told, turn_of};
 ghost use Rattle.oi_target_login.specs.Grown.{IsGrown};
+ghost use Rattle.oi_target_session.specs.Arrivals.{advanced};
+ghost use Rattle.oi_target_session.specs.Sessions.{without_resets};
 
 use crate::link::{Debts, Held, Link, Serving, Standing};
 use crate::target::Target;
@@ -10,7 +13,7 @@ use oi_base::{Blob, NoMemory, Params};
 use oi_pdu::Pdu;
 use oi_reserve::Nexus;
 use oi_target_login::{NewSession, TargetLogin, Verdict, Who};
-use oi_target_session::{Fed, Limits, Numbers, Reset, Session, receive};
+use oi_target_session::{Fed, Limits, Numbers, Place, Reset, Session, hold, place_of};
 use oi_units::Units;
 use std::alloc::Global;
 use std::collections::VecDeque;
@@ -165,6 +168,69 @@ impl Target {
         }
     }
 
+    // A PDU whose turn it is, and the other sessions are told of its reset.
+    fn turn(&mut self, session: &mut Session, pdu: Pdu, out: &mut Vec<u8>) -> Result<Fed, NoMemory>
+        ensures target { OnOk result (self.new ≡ told self.old (turn_of self.old session.old pdu)) }
+        ensures session { OnOk result (session.new ≡ without_resets (turn_of self.old session.old pdu).session) }
+        ensures fed { IfOk result (λ f. f ≡ (turn_of self.old session.old pdu).fed) }
+        ensures out { OnOk result (out.new.items ≡ out.old.items ++ wire (turn_of self.old session.old pdu).sent) }
+        ensures kept { OnErr result (IsGrown out.old.items out.new.items) }
+    {
+        let fed = session.serve(&mut self.units, self.listing.as_slice(), pdu, out)?;
+        let resets = session.take_resets();
+        reset_links(&mut self.links, &mut self.units, &resets)?;
+        Ok(fed)
+    }
+
+    // A PDU with the number that is expected, and those that were held and follow it at once.
+    fn serve_in_turn(
+        &mut self,
+        session: &mut Session,
+        held: &mut VecDeque<Option<Pdu>>,
+        pdu: Pdu,
+        out: &mut Vec<u8>,
+    ) -> Result<Fed, NoMemory>
+        ensures target { OnOk result (self.new ≡ (in_turn self.old session.old pdu held.old.items).target) }
+        ensures session { OnOk result (session.new ≡ (in_turn self.old session.old pdu held.old.items).session) }
+        ensures held { OnOk result (held.new.items ≡ (in_turn self.old session.old pdu held.old.items).held) }
+        ensures fed { IfOk result (λ f. f ≡ (in_turn self.old session.old pdu held.old.items).fed) }
+        ensures out { OnOk result (out.new.items ≡ out.old.items ++ wire (in_turn self.old session.old pdu held.old.items).sent) }
+        ensures kept { OnErr result (IsGrown out.old.items out.new.items) }
+    {
+        session.advance();
+        let slot = held.pop_front();
+        match self.turn(session, pdu, out)? {
+            Fed::Closed => Ok(Fed::Closed),
+            Fed::Going => match slot {
+                Some(Some(next)) => self.serve_in_turn(session, held, next, out),
+                _ => Ok(Fed::Going),
+            },
+        }
+    }
+
+    // A PDU, by its place in the order of commands.
+    fn receive(
+        &mut self,
+        session: &mut Session,
+        held: &mut VecDeque<Option<Pdu>>,
+        pdu: Pdu,
+        out: &mut Vec<u8>,
+    ) -> Result<Fed, NoMemory>
+        ensures target { OnOk result (self.new ≡ (received self.old session.old held.old.items pdu).target) }
+        ensures session { OnOk result (session.new ≡ (received self.old session.old held.old.items pdu).session) }
+        ensures held { OnOk result (held.new.items ≡ (received self.old session.old held.old.items pdu).held) }
+        ensures fed { IfOk result (λ f. f ≡ (received self.old session.old held.old.items pdu).fed) }
+        ensures out { OnOk result (out.new.items ≡ out.old.items ++ wire (received self.old session.old held.old.items pdu).sent) }
+        ensures kept { OnErr result (IsGrown out.old.items out.new.items) }
+    {
+        match place_of(session.discovers(), session.expected(), pdu.head) {
+            Place::Now => self.turn(session, pdu, out),
+            Place::InTurn => self.serve_in_turn(session, held, pdu, out),
+            Place::Early(at) => hold(held, at, pdu),
+            Place::Outside => Ok(Fed::Closed),
+        }
+    }
+
     // A PDU of a session.
     fn serve(&mut self, serving: Serving, pdu: Pdu, out: &mut Vec<u8>) -> Result<Outcome, NoMemory>
         ensures target { OnOk result (self.new ≡ (stepped self.old (Standing.Serving serving) pdu).target) }
@@ -181,16 +247,7 @@ impl Target {
         let mut session = session;
         let mut pdus = held.pdus;
         session.pay(owed.replies, out)?;
-        let fed = receive(
-            &mut session,
-            &mut self.units,
-            self.listing.as_slice(),
-            &mut pdus,
-            pdu,
-            out,
-        )?;
-        let resets = session.take_resets();
-        reset_links(&mut self.links, &mut self.units, &resets)?;
+        let fed = self.receive(&mut session, &mut pdus, pdu, out)?;
         let standing = match fed {
             Fed::Going => Standing::Serving(Serving {
                 session,

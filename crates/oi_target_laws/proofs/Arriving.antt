@@ -5,9 +5,11 @@ use Rattle.std.proofs.lemmas.List.{map-append}
 use Rattle.oi_pdu.specs.declared.codec.Pdu.{Pdu}
 use Rattle.oi_target.proofs.Bared.{aside_step, is_aside}
 use Rattle.oi_target.proofs.Numbered.{others_found, true_not}
+use Rattle.oi_target.proofs.Told.{step_told}
 use Rattle.oi_target.specs.Events.{Event, Joined, Left, Told, Whole, Malformed, happened, heard_of, shut, state_after}
 use Rattle.oi_target.specs.Steps.{Step, logged_in_by, received_by, serving_by, stepped, with_words}
 use Rattle.oi_target.specs.Targets.{Target, aside, ended_standing, learned, link_of, nexus_of, new_link, without}
+use Rattle.oi_target.specs.Turns.{Received}
 use Rattle.oi_target.specs.declared.config.TargetConfig.{TargetConfig}
 use Rattle.oi_target.specs.declared.link.Link.{Link}
 use Rattle.oi_target.specs.declared.link.Serving.{Serving}
@@ -15,7 +17,7 @@ use Rattle.oi_target.specs.declared.link.Standing.{Standing}
 use Rattle.oi_target.specs.declared.link.Standing.TheVariants as standing
 use Rattle.oi_target_laws.proofs.Accounts.{all_busy, aside_closed, aside_standing, other_standing, own_standing}
 use Rattle.oi_target_laws.proofs.Idle.{OneIsBusy, idle_serves, is_serving}
-use Rattle.oi_target_laws.proofs.Learning.{resets_keep}
+use Rattle.oi_target_laws.proofs.Learning.{told_keep}
 use Rattle.oi_target_laws.proofs.Placing.{count_join, received_placed}
 use Rattle.oi_target_laws.proofs.Steps.{ended_standings}
 use Rattle.oi_target_laws.specs.Arrivals.{EachHasItsTurn, came_since, event_pdus, held_pdus, pdu_of, pdus_of, session_pdus}
@@ -26,7 +28,7 @@ use Rattle.oi_target_login.specs.Logins.{turned}
 use Rattle.oi_target_login.specs.declared.answer.Answer.{Answer}
 use Rattle.oi_target_login.specs.declared.answer.Verdict.{Verdict}
 use Rattle.oi_target_login.specs.declared.answer.Verdict.TheVariants as verdict
-use Rattle.oi_target_session.specs.Arrivals.{Received, place_of}
+use Rattle.oi_target_session.specs.Arrivals.{place_of}
 use Rattle.oi_target_session.specs.Owing.{paid}
 use Rattle.oi_target_session.specs.declared.fed.Fed.{Fed}
 use Rattle.oi_target_session.specs.declared.fed.Fed.TheVariants.{Going, Closed}
@@ -82,7 +84,7 @@ own_placed t (standing.LoggingIn login) p ps turns h =
     (turned t.rules t.handle login p t.words).answer.verdict ps turns p
 own_placed t (standing.Serving v) p ps turns h =
     going_placed ps turns (step_turns t (standing.Serving v) p) v p (received_by v t p) (received_by v t p).fed h
-    (received_placed (place_of v.session.discovers v.session.numbers.exp.0 p.head) (paid v.session v.owed) t.units t.listing v.held p)
+    (received_placed (place_of v.session.discovers v.session.numbers.exp.0 p.head) t (paid v.session v.owed) v.held p)
 own_placed t standing.Ended p ps turns h = tt
 own_placed t standing.Closed p ps turns h = tt
 
@@ -116,7 +118,7 @@ other_placed ps turns n t (standing.LoggingIn login) p h =
     opening_placed ps turns n (with_words t (turned t.rules t.handle login p t.words).words) (turned t.rules t.handle login p t.words).answer
     (turned t.rules t.handle login p t.words).answer.verdict h
 other_placed ps turns n t (standing.Serving v) p h =
-    resets_keep (λ s. IsPlaced ps turns s) (learned_placed ps turns) n (received_by v t p).session.resets (received_by v t p).units t.links h
+    told_keep (λ s. IsPlaced ps turns s) (learned_placed ps turns) n (received_by v t p).resets t.links (received_by v t p).target.links (step_told t v p).links h
 other_placed ps turns n t standing.Ended p h = h
 other_placed ps turns n t standing.Closed p h = h
 

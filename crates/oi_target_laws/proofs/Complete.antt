@@ -1,20 +1,19 @@
 -- No command is executed before its data are complete.
 use Rattle.std.proofs.Common.{ℕ, Bool, true, false, not, ◌≡◌, Option, Some, None, List, [], ◌∷◌, ◌++◌, flat_map, map, refl, ap, if◌then◌else◌}
 use Rattle.oi_pdu.specs.declared.codec.Pdu.{Pdu}
-use Rattle.oi_sendtargets.specs.declared.found.Found.{Found}
 use Rattle.oi_target.specs.Events.{Event, Joined, Left, Told, Whole, Malformed, state_after}
-use Rattle.oi_target.specs.Runs.{event_requests, learned_requests, link_learned, link_requests, others_requests, own_requests, requests_of, reset_requests, step_requests}
-use Rattle.oi_target.specs.Steps.{received_by}
+use Rattle.oi_target.specs.Runs.{event_requests, in_turn_requests, learned_requests, link_learned, link_requests, requests_at, requests_of, reset_requests, step_requests, turn_others, turn_own, turn_requests}
 use Rattle.oi_target.specs.Targets.{Reached, Target, aside, link_of, reset_each}
+use Rattle.oi_target.specs.Turns.{told, turn_of}
 use Rattle.oi_target.specs.declared.link.Link.{Link}
 use Rattle.oi_target.specs.declared.link.Standing.{Standing}
 use Rattle.oi_target.specs.declared.link.Standing.TheVariants as standing
 use Rattle.oi_target_laws.specs.Histories.{AreComplete, ExecutedAreComplete}
 use Rattle.oi_target_session.specs.Arrivals.{Held, advanced, place_of}
-use Rattle.oi_target_session.specs.Executions.{if_going, in_turn_requests, requests_at, served_requests}
+use Rattle.oi_target_session.specs.Executions.{if_going}
 use Rattle.oi_target_session.specs.Owing.{paid}
 use Rattle.oi_target_session.specs.Runs.{ready, request_of}
-use Rattle.oi_target_session.specs.Sessions.{Handled, Session, handled, served, spared}
+use Rattle.oi_target_session.specs.Sessions.{Handled, Session, Turn, handled, spared, without_resets}
 use Rattle.oi_target_session.specs.declared.fed.Fed.{Fed}
 use Rattle.oi_target_session.specs.declared.fed.Fed.TheVariants.{Going, Closed}
 use Rattle.oi_target_session.specs.declared.place.Place.{Place}
@@ -40,35 +39,11 @@ ready_complete nexus (t ∷ ts) = go (is_waiting t) refl (ready_complete nexus t
   go true is was = tt
   go false is was = (ap not is, was)
 
-served_complete : (s : Session) (units : List LogicalUnit) (listing : List Found) (p : Pdu) → AreComplete (served_requests s units listing p)
-served_complete s units listing p =
+own_complete : (t : Target) (s : Session) (p : Pdu) → AreComplete (turn_own t s p)
+own_complete t s p =
     going_complete h.fed (map (request_of h.session.nexus) (ready h.session.tasks)) (ready_complete h.session.nexus h.session.tasks) where
       h : Handled
-      h = handled s units listing p.head p.payload
-
-in_turn_complete : (s : Session) (units : List LogicalUnit) (listing : List Found) (p : Pdu) (held : Held) → AreComplete (in_turn_requests s units listing p held)
-in_turn_complete s units listing p [] = served_complete (advanced s) units listing p
-in_turn_complete s units listing p (None ∷ held) = served_complete (advanced s) units listing p
-in_turn_complete s units listing p (Some next ∷ held) =
-    both_complete (served_requests (advanced s) units listing p)
-    (if_going (served (advanced s) units listing p).fed
-    (in_turn_requests (served (advanced s) units listing p).session (served (advanced s) units listing p).units listing next held))
-    (served_complete (advanced s) units listing p)
-    (going_complete (served (advanced s) units listing p).fed
-    (in_turn_requests (served (advanced s) units listing p).session (served (advanced s) units listing p).units listing next held)
-    (in_turn_complete (served (advanced s) units listing p).session (served (advanced s) units listing p).units listing next held))
-
-placed_complete : (place : Place) (s : Session) (units : List LogicalUnit) (listing : List Found) (held : Held) (p : Pdu) → AreComplete (requests_at place s units listing held p)
-placed_complete Now s units listing held p = served_complete s units listing p
-placed_complete InTurn s units listing held p = in_turn_complete s units listing p held
-placed_complete (Early at) s units listing held p = tt
-placed_complete Outside s units listing held p = tt
-
-own_complete : (t : Target) (s : Standing) (p : Pdu) → AreComplete (own_requests t s p)
-own_complete t (standing.LoggingIn login) p = tt
-own_complete t (standing.Serving v) p = placed_complete (place_of v.session.discovers v.session.numbers.exp.0 p.head) (paid v.session v.owed) t.units t.listing v.held p
-own_complete t standing.Ended p = tt
-own_complete t standing.Closed p = tt
+      h = handled s t.units t.listing p.head p.payload
 
 -- behind resets
 learned_complete : (r : Reset) (s : Standing) → AreComplete (learned_requests r s)
@@ -87,14 +62,32 @@ resets_complete (r ∷ rs) units ls =
     let all : Reached = reset_each r units ls in
     both_complete (flat_map (link_learned r) ls) (reset_requests rs all.units all.links) (reset_complete r ls) (resets_complete rs all.units all.links)
 
-others_complete : (t : Target) (s : Standing) (p : Pdu) → AreComplete (others_requests t s p)
-others_complete t (standing.LoggingIn login) p = tt
-others_complete t (standing.Serving v) p = resets_complete (received_by v t p).session.resets (received_by v t p).units t.links
-others_complete t standing.Ended p = tt
-others_complete t standing.Closed p = tt
+-- of a PDU whose turn it is
+turn_complete : (t : Target) (s : Session) (p : Pdu) → AreComplete (turn_requests t s p)
+turn_complete t s p =
+    let turn : Turn = turn_of t s p in
+    both_complete (turn_own t s p) (turn_others t s p) (own_complete t s p) (resets_complete turn.session.resets turn.units t.links)
+
+in_turn_complete : (t : Target) (s : Session) (p : Pdu) (held : Held) → AreComplete (in_turn_requests t s p held)
+in_turn_complete t s p [] = turn_complete t (advanced s) p
+in_turn_complete t s p (None ∷ held) = turn_complete t (advanced s) p
+in_turn_complete t s p (Some next ∷ held) =
+    let turn : Turn = turn_of t (advanced s) p in
+    let rest : List Request = in_turn_requests (told t turn) (without_resets turn.session) next held in
+    both_complete (turn_requests t (advanced s) p) (if_going turn.fed rest) (turn_complete t (advanced s) p)
+    (going_complete turn.fed rest (in_turn_complete (told t turn) (without_resets turn.session) next held))
+
+placed_complete : (place : Place) (t : Target) (s : Session) (held : Held) (p : Pdu) → AreComplete (requests_at place t s held p)
+placed_complete Now t s held p = turn_complete t s p
+placed_complete InTurn t s held p = in_turn_complete t s p held
+placed_complete (Early at) t s held p = tt
+placed_complete Outside t s held p = tt
 
 step_complete : (t : Target) (s : Standing) (p : Pdu) → AreComplete (step_requests t s p)
-step_complete t s p = both_complete (own_requests t s p) (others_requests t s p) (own_complete t s p) (others_complete t s p)
+step_complete t (standing.LoggingIn login) p = tt
+step_complete t (standing.Serving v) p = placed_complete (place_of v.session.discovers v.session.numbers.exp.0 p.head) t (paid v.session v.owed) v.held p
+step_complete t standing.Ended p = tt
+step_complete t standing.Closed p = tt
 
 link_complete : (t : Target) (m : ℕ) (o : Option Link) (p : Pdu) → AreComplete (link_requests t m o p)
 link_complete t m None p = tt

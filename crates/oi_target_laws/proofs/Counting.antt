@@ -5,17 +5,17 @@ use Rattle.oi_base.specs.Serials.{distance, successor}
 use Rattle.oi_pdu.specs.declared.codec.Pdu.{Pdu}
 use Rattle.oi_pdu.specs.declared.header.Header.{Header}
 use Rattle.oi_pdu.specs.declared.header.Header.TheVariants as head
-use Rattle.oi_sendtargets.specs.declared.found.Found.{Found}
+use Rattle.oi_target.specs.Targets.{Target}
+use Rattle.oi_target.specs.Turns.{Received, followed, in_turn, received_at, received_turn, told, turn_of}
 use Rattle.oi_target_laws.proofs.Keeps.{Keeps, served_keeps}
 use Rattle.oi_target_laws.specs.Numbers.{SameAreEqual, Succeed, behind_all, number_by, number_of, numbers_in}
 use Rattle.oi_target_laws.specs.Turned.{Turned, in_turn_turns, turned_at, turns_at, turns_if}
-use Rattle.oi_target_session.specs.Arrivals.{Held, Received, advanced, followed, in_turn, is_held, padded, place_ahead, place_by, place_of, received_at, unmoved, window}
-use Rattle.oi_target_session.specs.Sessions.{Session, Turn, served}
+use Rattle.oi_target_session.specs.Arrivals.{Held, advanced, is_held, padded, place_ahead, place_by, place_of, window}
+use Rattle.oi_target_session.specs.Sessions.{Session, Turn, without_resets}
 use Rattle.oi_target_session.specs.declared.fed.Fed.{Fed}
 use Rattle.oi_target_session.specs.declared.fed.Fed.TheVariants.{Going, Closed}
 use Rattle.oi_target_session.specs.declared.place.Place.{Place}
 use Rattle.oi_target_session.specs.declared.place.Place.TheVariants.{Now, InTurn, Early, Outside}
-use Rattle.oi_units.specs.declared.unit.LogicalUnit.{LogicalUnit}
 
 -- one number further
 nearer : (exp number ahead : ℕ) → distance exp number ≡ suc ahead → distance (successor exp) number ≡ ahead
@@ -87,37 +87,37 @@ one_number d exp p is = subst (λ (o : Option ℕ). Succeed exp (option_to_list 
 one_behind : (d : Bool) (exp : ℕ) (p : Pdu) → IsAhead d exp 0 p → behind_all exp (option_to_list (number_of d p.head) ++ []) ≡ successor exp
 one_behind d exp p is = ap (λ (o : Option ℕ). behind_all exp (option_to_list o ++ [])) is.takes
 
-one_counts : (s : Session) (units : List LogicalUnit) (listing : List Found) (p : Pdu) (held : Held) → IsAhead s.discovers s.numbers.exp.0 0 p
-    → AreAhead s.discovers (successor s.numbers.exp.0) 1 held
-    → Counts s.discovers s.numbers.exp.0 (turned_at (advanced s) units listing p ∷ []) (served (advanced s) units listing p).fed (served (advanced s) units listing p).session held
-one_counts s units listing p held is are = record {
+one_counts : (t : Target) (s : Session) (p : Pdu) (held : Held) → IsAhead s.discovers s.numbers.exp.0 0 p → AreAhead s.discovers (successor s.numbers.exp.0) 1 held
+    → Counts s.discovers s.numbers.exp.0 (turned_at t (advanced s) p ∷ []) (turn_of t (advanced s) p).fed (without_resets (turn_of t (advanced s) p).session) held
+one_counts t s p held is are = record {
   succeed = one_number s.discovers s.numbers.exp.0 p is;
   awaits = λ going. record {
-    discovers_is = (served_keeps (advanced s) units listing p).discovers;
-    expects = (served_keeps (advanced s) units listing p).expects ∙ sym (one_behind s.discovers s.numbers.exp.0 p is);
+    discovers_is = (served_keeps (advanced s) t.units t.listing p).discovers;
+    expects = (served_keeps (advanced s) t.units t.listing p).expects ∙ sym (one_behind s.discovers s.numbers.exp.0 p is);
     ahead = subst (λ (z : ℕ). AreAhead s.discovers z 1 held) (sym (one_behind s.discovers s.numbers.exp.0 p is)) are;
   };
 }
 
-in_turn_counts : (s : Session) (units : List LogicalUnit) (listing : List Found) (p : Pdu) (held : Held) → IsAhead s.discovers s.numbers.exp.0 0 p
-    → AreAhead s.discovers s.numbers.exp.0 1 held
-    → Counts s.discovers s.numbers.exp.0 (in_turn_turns s units listing p held) (in_turn s units listing p held).fed (in_turn s units listing p held).session (in_turn s units listing p held).held
-in_turn_counts s units listing p [] is are = one_counts s units listing p [] is tt
-in_turn_counts s units listing p (None ∷ held) is are = one_counts s units listing p held is (all_nearer s.discovers s.numbers.exp.0 1 held are)
-in_turn_counts s units listing p (Some next ∷ held) is are =
-    go (served (advanced s) units listing p).fed
-    (λ first rest. in_turn_counts (served (advanced s) units listing p).session (served (advanced s) units listing p).units listing next held first rest) where
-      t : Turn
-      t = served (advanced s) units listing p
+in_turn_counts : (t : Target) (s : Session) (p : Pdu) (held : Held) → IsAhead s.discovers s.numbers.exp.0 0 p → AreAhead s.discovers s.numbers.exp.0 1 held
+    → Counts s.discovers s.numbers.exp.0 (in_turn_turns t s p held) (in_turn t s p held).fed (in_turn t s p held).session (in_turn t s p held).held
+in_turn_counts t s p [] is are = one_counts t s p [] is tt
+in_turn_counts t s p (None ∷ held) is are = one_counts t s p held is (all_nearer s.discovers s.numbers.exp.0 1 held are)
+in_turn_counts t s p (Some next ∷ held) is are =
+    go turn.fed (λ first rest. in_turn_counts (told t turn) (without_resets turn.session) next held first rest) where
+      turn : Turn
+      turn = turn_of t (advanced s) p
 
-      k : Keeps (advanced s) t.session
-      k = served_keeps (advanced s) units listing p
+      k : Keeps (advanced s) turn.session
+      k = served_keeps (advanced s) t.units t.listing p
 
       end : Received
-      end = in_turn t.session t.units listing next held
+      end = in_turn (told t turn) (without_resets turn.session) next held
+
+      all : Fed → Received
+      all f = followed f (received_turn t held turn) end
 
       turns : List Turned
-      turns = in_turn_turns t.session t.units listing next held
+      turns = in_turn_turns (told t turn) (without_resets turn.session) next held
 
       next_is : IsAhead s.discovers (successor s.numbers.exp.0) 0 next
       next_is = one_nearer s.discovers s.numbers.exp.0 0 next are.0
@@ -125,21 +125,21 @@ in_turn_counts s units listing p (Some next ∷ held) is are =
       held_are : AreAhead s.discovers (successor s.numbers.exp.0) 1 held
       held_are = all_nearer s.discovers s.numbers.exp.0 1 held are.1
 
-      more : (IsAhead t.session.discovers t.session.numbers.exp.0 0 next → AreAhead t.session.discovers t.session.numbers.exp.0 1 held
-          → Counts t.session.discovers t.session.numbers.exp.0 turns end.fed end.session end.held)
+      more : (IsAhead turn.session.discovers turn.session.numbers.exp.0 0 next → AreAhead turn.session.discovers turn.session.numbers.exp.0 1 held
+          → Counts turn.session.discovers turn.session.numbers.exp.0 turns end.fed end.session end.held)
           → Counts s.discovers (successor s.numbers.exp.0) turns end.fed end.session end.held
       more counts =
           subst (λ (b : Bool). Counts b (successor s.numbers.exp.0) turns end.fed end.session end.held) k.discovers
-          (subst (λ (z : ℕ). Counts t.session.discovers z turns end.fed end.session end.held) k.expects
+          (subst (λ (z : ℕ). Counts turn.session.discovers z turns end.fed end.session end.held) k.expects
           (counts
-          (subst (λ (b : Bool). IsAhead b t.session.numbers.exp.0 0 next) (sym k.discovers) (subst (λ (z : ℕ). IsAhead s.discovers z 0 next) (sym k.expects) next_is))
-          (subst (λ (b : Bool). AreAhead b t.session.numbers.exp.0 1 held) (sym k.discovers) (subst (λ (z : ℕ). AreAhead s.discovers z 1 held) (sym k.expects) held_are))))
+          (subst (λ (b : Bool). IsAhead b turn.session.numbers.exp.0 0 next) (sym k.discovers) (subst (λ (z : ℕ). IsAhead s.discovers z 0 next) (sym k.expects) next_is))
+          (subst (λ (b : Bool). AreAhead b turn.session.numbers.exp.0 1 held) (sym k.discovers) (subst (λ (z : ℕ). AreAhead s.discovers z 1 held) (sym k.expects) held_are))))
 
       go : (f : Fed)
-          → (IsAhead t.session.discovers t.session.numbers.exp.0 0 next → AreAhead t.session.discovers t.session.numbers.exp.0 1 held
-          → Counts t.session.discovers t.session.numbers.exp.0 turns end.fed end.session end.held)
-          → Counts s.discovers s.numbers.exp.0 (turned_at (advanced s) units listing p ∷ turns_if f turns) (followed f held t end).fed (followed f held t end).session (followed f held t end).held
-      go Closed counts = one_counts s units listing p held is held_are
+          → (IsAhead turn.session.discovers turn.session.numbers.exp.0 0 next → AreAhead turn.session.discovers turn.session.numbers.exp.0 1 held
+          → Counts turn.session.discovers turn.session.numbers.exp.0 turns end.fed end.session end.held)
+          → Counts s.discovers s.numbers.exp.0 (turned_at t (advanced s) p ∷ turns_if f turns) (all f).fed (all f).session (all f).held
+      go Closed counts = one_counts t s p held is held_are
       go Going counts =
           let rest = more counts in
           record {
@@ -166,29 +166,24 @@ place_is d exp (head.TextRequest h) = by_place exp (h.immediate || not d) h.cmds
 place_is d exp h = refl
 
 -- a PDU that takes no number
-now_counts : (s : Session) (units : List LogicalUnit) (listing : List Found) (held : Held) (p : Pdu) → AreAhead s.discovers s.numbers.exp.0 1 held → number_of s.discovers p.head ≡ None
-    → Counts s.discovers s.numbers.exp.0 (turned_at s units listing p ∷ []) (served s units listing p).fed (served s units listing p).session held
-now_counts s units listing held p are none = record {
+now_counts : (t : Target) (s : Session) (held : Held) (p : Pdu) → AreAhead s.discovers s.numbers.exp.0 1 held → number_of s.discovers p.head ≡ None
+    → Counts s.discovers s.numbers.exp.0 (turned_at t s p ∷ []) (turn_of t s p).fed (without_resets (turn_of t s p).session) held
+now_counts t s held p are none = record {
   succeed = subst (λ (o : Option ℕ). Succeed s.numbers.exp.0 (option_to_list o ++ [])) (sym none) tt;
-  awaits = λ going. subst (λ (o : Option ℕ). Awaits s.discovers (behind_all s.numbers.exp.0 (option_to_list o ++ [])) (served s units listing p).session held) (sym none)
-      (record { discovers_is = (served_keeps s units listing p).discovers; expects = (served_keeps s units listing p).expects; ahead = are });
+  awaits = λ going. subst (λ (o : Option ℕ). Awaits s.discovers (behind_all s.numbers.exp.0 (option_to_list o ++ [])) (without_resets (turn_of t s p).session) held) (sym none)
+      (record { discovers_is = (served_keeps s t.units t.listing p).discovers; expects = (served_keeps s t.units t.listing p).expects; ahead = are });
 }
 
 ahead_again : (ahead : ℕ) → ¬ (ahead ≡ 0) → ahead ≡ 1 + (ahead - 1)
 ahead_again ahead some = omega arith
 
 -- one that comes early
-early_counts : (s : Session) (units : List LogicalUnit) (held : Held) (p : Pdu) (number : ℕ) → AreAhead s.discovers s.numbers.exp.0 1 held → number_of s.discovers p.head ≡ Some number
+early_counts : (s : Session) (held : Held) (p : Pdu) (number : ℕ) → AreAhead s.discovers s.numbers.exp.0 1 held → number_of s.discovers p.head ≡ Some number
     → ¬ (distance s.numbers.exp.0 number ≡ 0) → (b : Bool)
-    → Counts s.discovers s.numbers.exp.0 []
-    (if b then unmoved s units held Closed
-    else unmoved s units (slice_set (padded (distance s.numbers.exp.0 number - 1) held) (distance s.numbers.exp.0 number - 1) (Some p)) Going).fed
-    (if b then unmoved s units held Closed
-    else unmoved s units (slice_set (padded (distance s.numbers.exp.0 number - 1) held) (distance s.numbers.exp.0 number - 1) (Some p)) Going).session
-    (if b then unmoved s units held Closed
-    else unmoved s units (slice_set (padded (distance s.numbers.exp.0 number - 1) held) (distance s.numbers.exp.0 number - 1) (Some p)) Going).held
-early_counts s units held p number are takes some true = record { succeed = tt; awaits = λ going. absurd (let n : ⊥ = cc in n) }
-early_counts s units held p number are takes some false = record {
+    → Counts s.discovers s.numbers.exp.0 [] (if b then Closed else Going) s
+    (if b then held else slice_set (padded (distance s.numbers.exp.0 number - 1) held) (distance s.numbers.exp.0 number - 1) (Some p))
+early_counts s held p number are takes some true = record { succeed = tt; awaits = λ going. absurd (let n : ⊥ = cc in n) }
+early_counts s held p number are takes some false = record {
   succeed = tt;
   awaits = λ going. record {
     discovers_is = refl;
@@ -199,31 +194,27 @@ early_counts s units held p number are takes some false = record {
   };
 }
 
-numbered_counts : (s : Session) (units : List LogicalUnit) (listing : List Found) (held : Held) (p : Pdu) (number : ℕ) → AreAhead s.discovers s.numbers.exp.0 1 held
-    → number_of s.discovers p.head ≡ Some number → (a b : Bool) → (distance s.numbers.exp.0 number == 0) ≡ a
-    → Counts s.discovers s.numbers.exp.0
-    (turns_at (if a then InTurn else (if b then Early (distance s.numbers.exp.0 number - 1) else Outside)) s units listing held p)
-    (received_at (if a then InTurn else (if b then Early (distance s.numbers.exp.0 number - 1) else Outside)) s units listing held p).fed
-    (received_at (if a then InTurn else (if b then Early (distance s.numbers.exp.0 number - 1) else Outside)) s units listing held p).session
-    (received_at (if a then InTurn else (if b then Early (distance s.numbers.exp.0 number - 1) else Outside)) s units listing held p).held
-numbered_counts s units listing held p number are takes true b is =
-    in_turn_counts s units listing p held (record { number = number; takes = takes; far = eqb-true (distance s.numbers.exp.0 number) 0 is }) are
-numbered_counts s units listing held p number are takes false true is =
-    early_counts s units held p number are takes (eqb-false (distance s.numbers.exp.0 number) 0 is) (is_held (slice_get held (distance s.numbers.exp.0 number - 1)))
-numbered_counts s units listing held p number are takes false false is = record { succeed = tt; awaits = λ going. absurd (let n : ⊥ = cc in n) }
+-- what comes of a place
+abbrev CountsAt : Place → Target → Session → Held → Pdu → Type 0
+CountsAt place t s held p =
+    Counts s.discovers s.numbers.exp.0 (turns_at place t s held p) (received_at place t s held p).fed (received_at place t s held p).session (received_at place t s held p).held
+
+numbered_counts : (t : Target) (s : Session) (held : Held) (p : Pdu) (number : ℕ) → AreAhead s.discovers s.numbers.exp.0 1 held → number_of s.discovers p.head ≡ Some number
+    → (a b : Bool) → (distance s.numbers.exp.0 number == 0) ≡ a → CountsAt (if a then InTurn else (if b then Early (distance s.numbers.exp.0 number - 1) else Outside)) t s held p
+numbered_counts t s held p number are takes true b is =
+    in_turn_counts t s p held (record { number = number; takes = takes; far = eqb-true (distance s.numbers.exp.0 number) 0 is }) are
+numbered_counts t s held p number are takes false true is =
+    early_counts s held p number are takes (eqb-false (distance s.numbers.exp.0 number) 0 is) (is_held (slice_get held (distance s.numbers.exp.0 number - 1)))
+numbered_counts t s held p number are takes false false is = record { succeed = tt; awaits = λ going. absurd (let n : ⊥ = cc in n) }
 
 -- a PDU that comes
-pub received_counts : (s : Session) (units : List LogicalUnit) (listing : List Found) (held : Held) (p : Pdu) → AreAhead s.discovers s.numbers.exp.0 1 held
-    → Counts s.discovers s.numbers.exp.0 (turns_at (place_of s.discovers s.numbers.exp.0 p.head) s units listing held p)
-    (received_at (place_of s.discovers s.numbers.exp.0 p.head) s units listing held p).fed
-    (received_at (place_of s.discovers s.numbers.exp.0 p.head) s units listing held p).session
-    (received_at (place_of s.discovers s.numbers.exp.0 p.head) s units listing held p).held
-received_counts s units listing held p are =
-    subst (λ (z : Place). Counts s.discovers s.numbers.exp.0 (turns_at z s units listing held p) (received_at z s units listing held p).fed (received_at z s units listing held p).session
-    (received_at z s units listing held p).held) (sym (place_is s.discovers s.numbers.exp.0 p.head)) (go (number_of s.discovers p.head) refl) where
-      go : (o : Option ℕ) → number_of s.discovers p.head ≡ o
-          → Counts s.discovers s.numbers.exp.0 (turns_at (placed_by s.numbers.exp.0 o) s units listing held p) (received_at (placed_by s.numbers.exp.0 o) s units listing held p).fed
-          (received_at (placed_by s.numbers.exp.0 o) s units listing held p).session (received_at (placed_by s.numbers.exp.0 o) s units listing held p).held
-      go None takes = now_counts s units listing held p are takes
-      go (Some number) takes =
-          numbered_counts s units listing held p number are takes (distance s.numbers.exp.0 number == 0) (nat_lt (distance s.numbers.exp.0 number) window) refl
+pub received_counts : (t : Target) (s : Session) (held : Held) (p : Pdu) → AreAhead s.discovers s.numbers.exp.0 1 held
+    → Counts s.discovers s.numbers.exp.0 (turns_at (place_of s.discovers s.numbers.exp.0 p.head) t s held p)
+    (received_at (place_of s.discovers s.numbers.exp.0 p.head) t s held p).fed
+    (received_at (place_of s.discovers s.numbers.exp.0 p.head) t s held p).session
+    (received_at (place_of s.discovers s.numbers.exp.0 p.head) t s held p).held
+received_counts t s held p are = subst (λ (z : Place). CountsAt z t s held p) (sym (place_is s.discovers s.numbers.exp.0 p.head)) (go (number_of s.discovers p.head) refl) where
+  go : (o : Option ℕ) → number_of s.discovers p.head ≡ o → CountsAt (placed_by s.numbers.exp.0 o) t s held p
+  go None takes = now_counts t s held p are takes
+  go (Some number) takes =
+      numbered_counts t s held p number are takes (distance s.numbers.exp.0 number == 0) (nat_lt (distance s.numbers.exp.0 number) window) refl

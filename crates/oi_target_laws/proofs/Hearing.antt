@@ -5,10 +5,12 @@ use Rattle.oi_pdu.specs.declared.codec.Pdu.{Pdu}
 use Rattle.oi_target.proofs.Bared.{aside_step, is_aside}
 use Rattle.oi_target.proofs.Numbered.{others_found}
 use Rattle.oi_target.proofs.Shown.{only_proved_log_in}
+use Rattle.oi_target.proofs.Told.{step_told}
 use Rattle.oi_target.specs.Events.{Event, Joined, Left, Told, Whole, Malformed, happened, heard_of, shut, state_after}
 use Rattle.oi_target.specs.Shown.{HasProved, Heard, answer_to, login_after}
 use Rattle.oi_target.specs.Steps.{Step, logged_in_by, received_by, serving_by, stepped, with_words}
 use Rattle.oi_target.specs.Targets.{Target, aside, ended_standing, learned, link_of, nexus_of, new_link, rules_of, without}
+use Rattle.oi_target.specs.Turns.{Received}
 use Rattle.oi_target.specs.declared.config.TargetConfig.{TargetConfig}
 use Rattle.oi_target.specs.declared.link.Link.{Link}
 use Rattle.oi_target.specs.declared.link.Serving.{Serving}
@@ -17,7 +19,7 @@ use Rattle.oi_target.specs.declared.link.Standing.TheVariants as standing
 use Rattle.oi_target_laws.proofs.Accounts.{all_busy, aside_closed, aside_standing, other_standing, own_standing}
 use Rattle.oi_target_laws.proofs.Idle.{IsNew, OneIsBusy, idle_standing}
 use Rattle.oi_target_laws.proofs.Keeps.{received_nexus}
-use Rattle.oi_target_laws.proofs.Learning.{resets_keep}
+use Rattle.oi_target_laws.proofs.Learning.{told_keep}
 use Rattle.oi_target_laws.proofs.Steps.{ended_standings}
 use Rattle.oi_target_laws.specs.Histories.{standing_in, standing_of}
 use Rattle.oi_target_laws.specs.Logins.{LoginsAreHeard, ServedHaveProved, begun, event_heard, heard_as, heard_on, opened_at, opened_on}
@@ -29,7 +31,7 @@ use Rattle.oi_target_login.specs.declared.answer.Verdict.{Verdict}
 use Rattle.oi_target_login.specs.declared.answer.Verdict.TheVariants as verdict
 use Rattle.oi_target_login.specs.declared.config.LoginRules.{LoginRules}
 use Rattle.oi_target_login.specs.declared.progress.Progress.{Progress}
-use Rattle.oi_target_session.specs.Arrivals.{Received, place_of}
+use Rattle.oi_target_session.specs.Arrivals.{place_of}
 use Rattle.oi_target_session.specs.Owing.{paid}
 use Rattle.oi_target_session.specs.Sessions.{Session}
 use Rattle.oi_target_session.specs.declared.fed.Fed.{Fed}
@@ -105,7 +107,7 @@ own_heard t (standing.LoggingIn login) p r hs opened rules h =
     (turned t.rules t.handle login p t.words).answer.verdict
     (ap (λ (z : LoginRules). (turned z t.handle login p t.words).answer) rules ∙ ap (λ (z : Progress). (turned r t.handle z p t.words).answer) h) refl
 own_heard t (standing.Serving v) p r hs opened rules h =
-    let same = received_nexus (place_of v.session.discovers v.session.numbers.exp.0 p.head) (paid v.session v.owed) t.units t.listing v.held p in
+    let same = received_nexus (place_of v.session.discovers v.session.numbers.exp.0 p.head) t (paid v.session v.owed) v.held p in
     going_heard r hs (heard_as t p ∷ hs) opened v (received_by v t p) (received_by v t p).fed same.nexus same.discovers h
 own_heard t standing.Ended p r hs opened rules h = tt
 own_heard t standing.Closed p r hs opened rules h = tt
@@ -148,7 +150,7 @@ other_heard r hs opened n t (standing.LoggingIn login) p h =
     opening_heard r hs opened n (with_words t (turned t.rules t.handle login p t.words).words) (turned t.rules t.handle login p t.words).answer
     (turned t.rules t.handle login p t.words).answer.verdict h
 other_heard r hs opened n t (standing.Serving v) p h =
-    resets_keep (λ s. HeardAt r hs opened s) (learned_heard r hs opened) n (received_by v t p).session.resets (received_by v t p).units t.links h
+    told_keep (λ s. HeardAt r hs opened s) (learned_heard r hs opened) n (received_by v t p).resets t.links (received_by v t p).target.links (step_told t v p).links h
 other_heard r hs opened n t standing.Ended p h = h
 other_heard r hs opened n t standing.Closed p h = h
 
@@ -247,7 +249,7 @@ step_rules : (t : Target) (s : Standing) (p : Pdu) → (stepped t s p).target.ru
 step_rules t (standing.LoggingIn login) p =
     login_rules (with_words t (turned t.rules t.handle login p t.words).words) (turned t.rules t.handle login p t.words).answer
     (turned t.rules t.handle login p t.words).answer.verdict
-step_rules t (standing.Serving v) p = refl
+step_rules t (standing.Serving v) p = ap (λ (z : Target). z.rules) (step_told t v p).same
 step_rules t standing.Ended p = refl
 step_rules t standing.Closed p = refl
 

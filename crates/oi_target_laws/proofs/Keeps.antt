@@ -1,6 +1,6 @@
 -- A PDU leaves whose session it is, and one that has its turn which number is expected.
 use Rattle.std.proofs.Common.{ℕ, Bool, true, false, not, ◌&&◌, ◌≡◌, ◌∙◌, Option, Some, None, is_some, List, [], ◌∷◌, ◌++◌, filter, length, refl, take, if◌then◌else◌, ◌==◌}
-use Rattle.std.specs.List.{list_any, slice_get, slice_set}
+use Rattle.std.specs.List.{list_any}
 use Rattle.oi_pdu.specs.declared.codec.Pdu.{Pdu}
 use Rattle.oi_pdu.specs.declared.header.DataOut.{DataOut}
 use Rattle.oi_pdu.specs.declared.header.Header.{Header}
@@ -10,11 +10,13 @@ use Rattle.oi_pdu.specs.declared.header.ScsiCommand.{ScsiCommand}
 use Rattle.oi_pdu.specs.declared.header.TaskManagement.{TaskManagement}
 use Rattle.oi_pdu.specs.declared.header.TextRequest.{TextRequest}
 use Rattle.oi_sendtargets.specs.declared.found.Found.{Found}
+use Rattle.oi_target.specs.Targets.{Target}
+use Rattle.oi_target.specs.Turns.{Received, followed, in_turn, received_at, received_turn, told, turn_of}
 use Rattle.oi_target_login.specs.Texts.{text_pairs}
 use Rattle.oi_target_session.specs.Answers.{echo_pdu, no_tag, r2t_pdu}
-use Rattle.oi_target_session.specs.Arrivals.{Held, Received, advanced, followed, in_turn, is_held, padded, received_at, unmoved}
+use Rattle.oi_target_session.specs.Arrivals.{Held, advanced}
 use Rattle.oi_target_session.specs.Listings.{is_long}
-use Rattle.oi_target_session.specs.Sessions.{Handled, Session, Turn, aborted, and_drained, asking, behind, closes, commanded, counted, data_to, drained, filled_by, goes, handled, handled_discovering, handled_normally, is_unfit, managed, pinged, queued, reply_pdus, reset_as, responded, served, text_kept, text_read, text_sent, texted_with, with_tasks, with_transfer}
+use Rattle.oi_target_session.specs.Sessions.{Handled, Session, Turn, aborted, and_drained, asking, behind, closes, commanded, counted, data_to, drained, filled_by, goes, handled, handled_discovering, handled_normally, is_unfit, managed, pinged, queued, reply_pdus, reset_as, responded, served, text_kept, text_read, text_sent, texted_with, with_tasks, with_transfer, without_resets}
 use Rattle.oi_target_session.specs.declared.fed.Fed.{Fed}
 use Rattle.oi_target_session.specs.declared.fed.Fed.TheVariants.{Going, Closed}
 use Rattle.oi_target_session.specs.declared.place.Place.{Place}
@@ -141,30 +143,26 @@ pub record IsSamePort (s t : Session) : Type 0 where
 served_port : (s : Session) (units : List LogicalUnit) (listing : List Found) (p : Pdu) → IsSamePort s (served s units listing p).session
 served_port s units listing p = record { discovers = (served_keeps s units listing p).discovers; nexus = (served_keeps s units listing p).nexus }
 
-turn_port : (s : Session) (units : List LogicalUnit) (listing : List Found) (p : Pdu) → IsSamePort s (served (advanced s) units listing p).session
-turn_port s units listing p = record { discovers = (served_keeps (advanced s) units listing p).discovers; nexus = (served_keeps (advanced s) units listing p).nexus }
+turn_port : (t : Target) (s : Session) (p : Pdu) → IsSamePort s (turn_of t (advanced s) p).session
+turn_port t s p =
+    record { discovers = (served_keeps (advanced s) t.units t.listing p).discovers; nexus = (served_keeps (advanced s) t.units t.listing p).nexus }
 
-in_turn_port : (s : Session) (units : List LogicalUnit) (listing : List Found) (p : Pdu) (held : Held) → IsSamePort s (in_turn s units listing p held).session
-in_turn_port s units listing p [] = turn_port s units listing p
-in_turn_port s units listing p (None ∷ held) = turn_port s units listing p
-in_turn_port s units listing p (Some next ∷ held) =
-    go (served (advanced s) units listing p).fed (turn_port s units listing p)
-    (in_turn_port (served (advanced s) units listing p).session (served (advanced s) units listing p).units listing next held) where
-      t : Turn
-      t = served (advanced s) units listing p
+in_turn_port : (t : Target) (s : Session) (p : Pdu) (held : Held) → IsSamePort s (in_turn t s p held).session
+in_turn_port t s p [] = record { discovers = (turn_port t s p).discovers; nexus = (turn_port t s p).nexus }
+in_turn_port t s p (None ∷ held) = record { discovers = (turn_port t s p).discovers; nexus = (turn_port t s p).nexus }
+in_turn_port t s p (Some next ∷ held) = go turn.fed (turn_port t s p) (in_turn_port (told t turn) (without_resets turn.session) next held) where
+  turn : Turn
+  turn = turn_of t (advanced s) p
 
-      end : Received
-      end = in_turn t.session t.units listing next held
+  end : Received
+  end = in_turn (told t turn) (without_resets turn.session) next held
 
-      go : (f : Fed) → IsSamePort s t.session → IsSamePort t.session end.session → IsSamePort s (followed f held t end).session
-      go Closed one more = one
-      go Going one more = record { discovers = more.discovers ∙ one.discovers; nexus = more.nexus ∙ one.nexus }
+  go : (f : Fed) → IsSamePort s turn.session → IsSamePort (without_resets turn.session) end.session → IsSamePort s (followed f (received_turn t held turn) end).session
+  go Closed one more = record { discovers = one.discovers; nexus = one.nexus }
+  go Going one more = record { discovers = more.discovers ∙ one.discovers; nexus = more.nexus ∙ one.nexus }
 
-pub received_nexus : (place : Place) (s : Session) (units : List LogicalUnit) (listing : List Found) (held : Held) (p : Pdu) → IsSamePort s (received_at place s units listing held p).session
-received_nexus Now s units listing held p = served_port s units listing p
-received_nexus InTurn s units listing held p = in_turn_port s units listing p held
-received_nexus (Early at) s units listing held p = go (is_held (slice_get held at)) where
-  go : (b : Bool) → IsSamePort s (if b then unmoved s units held Closed else unmoved s units (slice_set (padded at held) at (Some p)) Going).session
-  go true = record { discovers = refl; nexus = refl }
-  go false = record { discovers = refl; nexus = refl }
-received_nexus Outside s units listing held p = record { discovers = refl; nexus = refl }
+pub received_nexus : (place : Place) (t : Target) (s : Session) (held : Held) (p : Pdu) → IsSamePort s (received_at place t s held p).session
+received_nexus Now t s held p = let same = served_port s t.units t.listing p in record { discovers = same.discovers; nexus = same.nexus }
+received_nexus InTurn t s held p = in_turn_port t s p held
+received_nexus (Early at) t s held p = record { discovers = refl; nexus = refl }
+received_nexus Outside t s held p = record { discovers = refl; nexus = refl }

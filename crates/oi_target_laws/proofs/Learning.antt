@@ -1,8 +1,9 @@
 -- What the resets of a connection make of another one.
-use Rattle.std.proofs.Common.{ℕ, Bool, true, false, ◌≡◌, ◌∙◌, Option, Some, None, List, [], ◌∷◌, ◌++◌, refl, ap, sym, subst, if◌then◌else◌, ◌==◌}
+use Rattle.std.proofs.Common.{ℕ, Bool, true, false, ◌≡◌, ◌∙◌, Option, Some, None, List, [], ◌∷◌, ◌++◌, refl, ap, sym, subst, append_assoc, if◌then◌else◌, ◌==◌}
 use Rattle.std.proofs.lemmas.List.{map-append}
 use Rattle.oi_target.proofs.Learned.{link_reached, relearned}
 use Rattle.oi_target.proofs.Placed.{over}
+use Rattle.oi_target.proofs.Told.{AreTold}
 use Rattle.oi_target.specs.Targets.{Reached, learned, link_of, reset_each, reset_links, without}
 use Rattle.oi_target.specs.declared.link.Link.{Link}
 use Rattle.oi_target.specs.declared.link.Standing.{Standing}
@@ -36,13 +37,12 @@ learned_in n r units ls =
     (found.0, ap standing_of found.1 ∙ over_standing (relearned r found.0) (λ s. (learned r found.0 s).standing) (λ l. refl) refl (link_of n ls))
 
 -- what holds of a connection whatever it learns holds of it behind resets
-pub resets_keep : (P : Standing → Type 0) → ((r : Reset) (u : List LogicalUnit) (s : Standing) → P s → P (learned r u s).standing)
-    → (n : ℕ) (resets : List Reset) (units : List LogicalUnit) (ls : List Link) → P (standing_in n ls) → P (standing_in n (reset_links resets units ls).links)
-resets_keep P keeps n [] units ls h = h
-resets_keep P keeps n (r ∷ rs) units ls h =
-    let all : Reached = reset_each r units ls in
-    let found = learned_in n r units ls in
-    resets_keep P keeps n rs all.units all.links (subst P (sym found.1) (keeps r found.0 (standing_in n ls) h))
+pub told_keep : (P : Standing → Type 0) → ((r : Reset) (u : List LogicalUnit) (s : Standing) → P s → P (learned r u s).standing)
+    → (n : ℕ) (resets : List Reset) (ls ks : List Link) → AreTold resets ls ks → P (standing_in n ls) → P (standing_in n ks)
+told_keep P keeps n [] ls ks told h = subst (λ (z : List Link). P (standing_in n z)) (sym told) h
+told_keep P keeps n (r ∷ rs) ls ks told h =
+    let found = learned_in n r told.0 ls in
+    told_keep P keeps n rs (reset_each r told.0 ls).links ks told.1 (subst P (sym found.1) (keeps r found.0 (standing_in n ls) h))
 
 -- its tasks
 learned_tasks : (r : Reset) (u : List LogicalUnit) (s : Standing) → tasks_at (learned r u s).standing ≡ unready (spared r (tasks_at s))
@@ -75,12 +75,30 @@ unready_stuck (t ∷ ts) = go (is_waiting t) refl (unready_stuck ts) where
   go true is was = is
   go false is was = was
 
-learned_stuck : (r : Reset) (u : List LogicalUnit) (s : Standing) → is_stuck (tasks_at (learned r u s).standing) ≡ true
+pub learned_stuck : (r : Reset) (u : List LogicalUnit) (s : Standing) → is_stuck (tasks_at (learned r u s).standing) ≡ true
 learned_stuck r u s = ap is_stuck (learned_tasks r u s) ∙ unready_stuck (spared r (tasks_at s))
 
-pub resets_stuck : (n : ℕ) (resets : List Reset) (units : List LogicalUnit) (ls : List Link) → is_stuck (tasks_in n ls) ≡ true
-    → is_stuck (tasks_in n (reset_links resets units ls).links) ≡ true
-resets_stuck n resets units ls was = resets_keep (λ s. is_stuck (tasks_at s) ≡ true) (λ r u s h. learned_stuck r u s) n resets units ls was
+pub told_stuck : (n : ℕ) (resets : List Reset) (ls ks : List Link) → AreTold resets ls ks → is_stuck (tasks_in n ls) ≡ true → is_stuck (tasks_in n ks) ≡ true
+told_stuck n resets ls ks told was = told_keep (λ s. is_stuck (tasks_at s) ≡ true) (λ r u s h. learned_stuck r u s) n resets ls ks told was
+
+-- its tasks behind resets
+abbrev pub after_all : List Reset → List Task → List Task
+after_all [] ts = ts
+after_all (r ∷ rs) ts = after_all rs (unready (spared r ts))
+
+pub resets_tasks : (n : ℕ) (resets : List Reset) (units : List LogicalUnit) (ls : List Link)
+    → tasks_in n (reset_links resets units ls).links ≡ after_all resets (tasks_in n ls)
+resets_tasks n [] units ls = refl
+resets_tasks n (r ∷ rs) units ls =
+    let all : Reached = reset_each r units ls in
+    resets_tasks n rs all.units all.links ∙ ap (after_all rs) (reset_tasks n r units ls)
+
+-- those that are executed behind resets in two parts
+pub woken_join : (first second : List Reset) (ts : List Task) → woken_by_all (first ++ second) ts ≡ woken_by_all first ts ++ woken_by_all second (after_all first ts)
+woken_join [] second ts = refl
+woken_join (r ∷ rs) second ts =
+    ap (λ (z : List Task). ready (spared r ts) ++ z) (woken_join rs second (unready (spared r ts)))
+    ∙ sym (append_assoc (ready (spared r ts)) (woken_by_all rs (unready (spared r ts))) (woken_by_all second (after_all rs (unready (spared r ts)))))
 
 -- a reset takes some tasks, and those at the front of what is left are executed
 reset_moves : (r : Reset) (ts : List Task)
@@ -89,30 +107,27 @@ reset_moves r ts =
     then_executes (commands_of ts) [] (commands_of (taken_by r ts)) (commands_of (spared r ts)) (commands_of (ready (spared r ts))) (commands_of (unready (spared r ts)))
     (spares r ts) (ready_parts (spared r ts))
 
-pub resets_moves : (n : ℕ) (resets : List Reset) (units : List LogicalUnit) (ls : List Link)
-    → Moves (commands_of (tasks_in n ls)) [] (commands_of (woken_by_all resets (tasks_in n ls))) (commands_of (taken_by_all resets (tasks_in n ls)))
-    (commands_of (tasks_in n (reset_links resets units ls).links))
-resets_moves n [] units ls = stays (commands_of (tasks_in n ls))
-resets_moves n (r ∷ rs) units ls =
+pub told_moves : (n : ℕ) (resets : List Reset) (ls ks : List Link) → AreTold resets ls ks
+    → Moves (commands_of (tasks_in n ls)) [] (commands_of (woken_by_all resets (tasks_in n ls))) (commands_of (taken_by_all resets (tasks_in n ls))) (commands_of (tasks_in n ks))
+told_moves n [] ls ks told =
+    subst (λ (z : List Link). Moves (commands_of (tasks_in n ls)) [] [] [] (commands_of (tasks_in n z))) (sym told) (stays (commands_of (tasks_in n ls)))
+told_moves n (r ∷ rs) ls ks told =
     subst (λ (z : List UnitCommand). Moves (commands_of ts) [] z (commands_of (taken_by r ts ++ taken_by_all rs us)) (commands_of vs))
     (sym (map-append command_of_task (ready (spared r ts)) (woken_by_all rs us)))
     (subst (λ (z : List UnitCommand). Moves (commands_of ts) [] (commands_of (ready (spared r ts)) ++ commands_of (woken_by_all rs us)) z (commands_of vs))
     (sym (map-append command_of_task (taken_by r ts) (taken_by_all rs us)))
     (moves_on (commands_of ts) [] [] (commands_of (ready (spared r ts))) (commands_of (woken_by_all rs us)) (commands_of (taken_by r ts)) (commands_of (taken_by_all rs us))
     (commands_of us) (commands_of vs) (reset_moves r ts)
-    (subst (λ (z : List Task). Moves (commands_of z) [] (commands_of (woken_by_all rs z)) (commands_of (taken_by_all rs z)) (commands_of vs)) (reset_tasks n r units ls)
-    (resets_moves n rs all.units all.links)))) where
+    (subst (λ (z : List Task). Moves (commands_of z) [] (commands_of (woken_by_all rs z)) (commands_of (taken_by_all rs z)) (commands_of vs)) (reset_tasks n r told.0 ls)
+    (told_moves n rs (reset_each r told.0 ls).links ks told.1)))) where
       ts : List Task
       ts = tasks_in n ls
 
       us : List Task
       us = unready (spared r ts)
 
-      all : Reached
-      all = reset_each r units ls
-
       vs : List Task
-      vs = tasks_in n (reset_links rs all.units all.links).links
+      vs = tasks_in n ks
 
 -- of each number one is busy
 idle_reset : (n : ℕ) (r : Reset) (units : List LogicalUnit) (ls : List Link) → AreIdle n ls → AreIdle n (reset_each r units ls).links
@@ -130,6 +145,6 @@ busy_reset n r units (l ∷ ls) i = go (l.number == n) i (λ h. busy_reset n r (
   go true h more = idle_reset n r (learned r units l.standing).units ls h
   go false h more = (λ is. ap (λ (s : Standing). (learned r units s).standing) (h.0 is), more h.1)
 
-pub resets_busy : (n : ℕ) (resets : List Reset) (units : List LogicalUnit) (ls : List Link) → OneIsBusy n ls → OneIsBusy n (reset_links resets units ls).links
-resets_busy n [] units ls i = i
-resets_busy n (r ∷ rs) units ls i = resets_busy n rs (reset_each r units ls).units (reset_each r units ls).links (busy_reset n r units ls i)
+pub told_busy : (n : ℕ) (resets : List Reset) (ls ks : List Link) → AreTold resets ls ks → OneIsBusy n ls → OneIsBusy n ks
+told_busy n [] ls ks told i = subst (λ (z : List Link). OneIsBusy n z) (sym told) i
+told_busy n (r ∷ rs) ls ks told i = told_busy n rs (reset_each r told.0 ls).links ks told.1 (busy_reset n r told.0 ls i)

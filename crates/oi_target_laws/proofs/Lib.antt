@@ -4,6 +4,7 @@ pub mod Asking
 pub mod Complete
 pub mod Conflicts
 pub mod Counting
+pub mod Finding
 pub mod Handles
 pub mod Hearing
 pub mod Idle

@@ -5,9 +5,11 @@ use Rattle.std.proofs.lemmas.List.Concat.{flat_map-append}
 use Rattle.oi_pdu.specs.declared.codec.Pdu.{Pdu}
 use Rattle.oi_target.proofs.Bared.{aside_step, is_aside}
 use Rattle.oi_target.proofs.Numbered.{others_found, true_not}
+use Rattle.oi_target.proofs.Told.{step_told}
 use Rattle.oi_target.specs.Events.{Event, Joined, Left, Told, Whole, Malformed, happened, heard_of, shut, state_after}
 use Rattle.oi_target.specs.Steps.{Step, logged_in_by, received_by, serving_by, stepped, with_words}
 use Rattle.oi_target.specs.Targets.{Target, aside, ended_standing, learned, link_of, nexus_of, new_link, without}
+use Rattle.oi_target.specs.Turns.{Received}
 use Rattle.oi_target.specs.declared.config.TargetConfig.{TargetConfig}
 use Rattle.oi_target.specs.declared.link.Link.{Link}
 use Rattle.oi_target.specs.declared.link.Serving.{Serving}
@@ -16,7 +18,7 @@ use Rattle.oi_target.specs.declared.link.Standing.TheVariants as standing
 use Rattle.oi_target_laws.proofs.Accounts.{all_busy, aside_closed, aside_standing, other_standing, own_standing}
 use Rattle.oi_target_laws.proofs.Counting.{AreAhead, Awaits, Counts, behind_join, received_counts, succeed_join}
 use Rattle.oi_target_laws.proofs.Idle.{OneIsBusy, idle_serves, is_serving}
-use Rattle.oi_target_laws.proofs.Learning.{resets_keep}
+use Rattle.oi_target_laws.proofs.Learning.{told_keep}
 use Rattle.oi_target_laws.proofs.Steps.{ended_standings}
 use Rattle.oi_target_laws.specs.Histories.{event_turns, link_turns, standing_in, standing_of, step_turns, turns_on}
 use Rattle.oi_target_laws.specs.Numbers.{AreLast, NextIsExpected, NumbersSucceed, Succeed, TurnsAreLast, behind_all, event_opened, first_by, first_on, link_opened, numbers_in, numbers_on, opened_by, session_turns, since, step_opened}
@@ -25,7 +27,6 @@ use Rattle.oi_target_login.specs.Logins.{turned}
 use Rattle.oi_target_login.specs.declared.answer.Answer.{Answer}
 use Rattle.oi_target_login.specs.declared.answer.Verdict.{Verdict}
 use Rattle.oi_target_login.specs.declared.answer.Verdict.TheVariants as verdict
-use Rattle.oi_target_session.specs.Arrivals.{Received}
 use Rattle.oi_target_session.specs.Owing.{paid}
 use Rattle.oi_target_session.specs.declared.fed.Fed.{Fed}
 use Rattle.oi_target_session.specs.declared.fed.Fed.TheVariants.{Going, Closed}
@@ -95,7 +96,7 @@ served_numbered t v p first turns was = record {
 
   counts : Counts v.session.discovers exp new r.fed r.session r.held
   counts = subst (λ (z : ℕ). Counts v.session.discovers z new r.fed r.session r.held) was.awaits.expects
-      (received_counts (paid v.session v.owed) t.units t.listing v.held p (subst (λ (z : ℕ). AreAhead v.session.discovers z 1 v.held) (sym was.awaits.expects) was.awaits.ahead))
+      (received_counts t (paid v.session v.owed) v.held p (subst (λ (z : ℕ). AreAhead v.session.discovers z 1 v.held) (sym was.awaits.expects) was.awaits.ahead))
 
 own_numbered : (t : Target) (s : Standing) (p : Pdu) (first : ℕ) (turns : List Turned) → Numbered first turns s
     → Numbered (first_by (step_opened t s p) first) (since (step_opened t s p) turns ++ step_turns t s p) (stepped t s p).standing
@@ -134,7 +135,7 @@ other_awaits exp n t (standing.LoggingIn login) p h =
     login_awaits exp n (with_words t (turned t.rules t.handle login p t.words).words) (turned t.rules t.handle login p t.words).answer
     (turned t.rules t.handle login p t.words).answer.verdict h
 other_awaits exp n t (standing.Serving v) p h =
-    resets_keep (λ s. AwaitsAt exp s) (learned_awaits exp) n (received_by v t p).session.resets (received_by v t p).units t.links h
+    told_keep (λ s. AwaitsAt exp s) (learned_awaits exp) n (received_by v t p).resets t.links (received_by v t p).target.links (step_told t v p).links h
 other_awaits exp n t standing.Ended p h = h
 other_awaits exp n t standing.Closed p h = h
 

@@ -2,16 +2,16 @@
 use Rattle.std.proofs.Common.{ℕ, zero, suc, ◌+◌, ◌-◌, ◌<◌, Bool, true, false, cond, ◌≡◌, ◌∙◌, Some, None, List, [], ◌∷◌, ◌++◌, count_by, length, replicate, refl, ap, sym, arith, option_to_list, slice_get, slice_set, if◌then◌else◌}
 use Rattle.std.proofs.lemmas.List.Sums.{sum_by-append, sum_by-cons}
 use Rattle.oi_pdu.specs.declared.codec.Pdu.{Pdu}
-use Rattle.oi_sendtargets.specs.declared.found.Found.{Found}
+use Rattle.oi_target.specs.Targets.{Target}
+use Rattle.oi_target.specs.Turns.{Received, followed, in_turn, received_at, received_turn, told, turn_of}
 use Rattle.oi_target_laws.specs.Arrivals.{held_pdus, pdus_of}
 use Rattle.oi_target_laws.specs.Turned.{Turned, in_turn_turns, turns_at, turns_if}
-use Rattle.oi_target_session.specs.Arrivals.{Held, Received, advanced, followed, in_turn, is_held, padded, received_at, unmoved}
-use Rattle.oi_target_session.specs.Sessions.{Session, Turn, served}
+use Rattle.oi_target_session.specs.Arrivals.{Held, advanced, is_held, padded}
+use Rattle.oi_target_session.specs.Sessions.{Session, Turn, without_resets}
 use Rattle.oi_target_session.specs.declared.fed.Fed.{Fed}
 use Rattle.oi_target_session.specs.declared.fed.Fed.TheVariants.{Going, Closed}
 use Rattle.oi_target_session.specs.declared.place.Place.{Place}
 use Rattle.oi_target_session.specs.declared.place.Place.TheVariants.{Now, InTurn, Early, Outside}
-use Rattle.oi_units.specs.declared.unit.LogicalUnit.{LogicalUnit}
 
 pub count_join : (f : Pdu → Bool) (ps qs : List Pdu) → count_by f (ps ++ qs) ≡ count_by f ps + count_by f qs
 count_join f ps qs = sum_by-append (λ p. cond (f p) 1 0) ps qs
@@ -29,25 +29,27 @@ both_more : (all one some rest more turns : ℕ) → all ≡ one + some → some
 both_more all one some rest more turns a b c = omega arith
 
 -- those that were held and follow it at once
-in_turn_placed : (s : Session) (units : List LogicalUnit) (listing : List Found) (p : Pdu) (held : Held) → (in_turn s units listing p held).fed ≡ Going → (f : Pdu → Bool)
-    → count_by f (p ∷ held_pdus held) ≡ count_by f (pdus_of (in_turn_turns s units listing p held)) + count_by f (held_pdus (in_turn s units listing p held).held)
-in_turn_placed s units listing p [] going f = none_more (count_by f (p ∷ []))
-in_turn_placed s units listing p (None ∷ held) going f = count_join f (p ∷ []) (held_pdus held)
-in_turn_placed s units listing p (Some next ∷ held) going f =
-    go (served (advanced s) units listing p).fed refl going
-    (λ e. in_turn_placed (served (advanced s) units listing p).session (served (advanced s) units listing p).units listing next held e f) where
-      t : Turn
-      t = served (advanced s) units listing p
+in_turn_placed : (t : Target) (s : Session) (p : Pdu) (held : Held) → (in_turn t s p held).fed ≡ Going → (f : Pdu → Bool)
+    → count_by f (p ∷ held_pdus held) ≡ count_by f (pdus_of (in_turn_turns t s p held)) + count_by f (held_pdus (in_turn t s p held).held)
+in_turn_placed t s p [] going f = none_more (count_by f (p ∷ []))
+in_turn_placed t s p (None ∷ held) going f = count_join f (p ∷ []) (held_pdus held)
+in_turn_placed t s p (Some next ∷ held) going f =
+    go turn.fed refl going (λ e. in_turn_placed (told t turn) (without_resets turn.session) next held e f) where
+      turn : Turn
+      turn = turn_of t (advanced s) p
 
       end : Received
-      end = in_turn t.session t.units listing next held
+      end = in_turn (told t turn) (without_resets turn.session) next held
+
+      all : Fed → Received
+      all g = followed g (received_turn t held turn) end
 
       turns : List Turned
-      turns = in_turn_turns t.session t.units listing next held
+      turns = in_turn_turns (told t turn) (without_resets turn.session) next held
 
-      go : (g : Fed) → t.fed ≡ g → (followed g held t end).fed ≡ Going
+      go : (g : Fed) → turn.fed ≡ g → (all g).fed ≡ Going
           → (end.fed ≡ Going → count_by f (next ∷ held_pdus held) ≡ count_by f (pdus_of turns) + count_by f (held_pdus end.held))
-          → count_by f (p ∷ next ∷ held_pdus held) ≡ count_by f (p ∷ pdus_of (turns_if g turns)) + count_by f (held_pdus (followed g held t end).held)
+          → count_by f (p ∷ next ∷ held_pdus held) ≡ count_by f (p ∷ pdus_of (turns_if g turns)) + count_by f (held_pdus (all g).held)
       go Closed is e more = not_closed (sym is ∙ e)
       go Going is e more =
           both_more (count_by f (p ∷ next ∷ held_pdus held)) (cond (f p) 1 0) (count_by f (next ∷ held_pdus held)) (count_by f (held_pdus end.held))
@@ -88,18 +90,15 @@ no_turns : (one held all more : ℕ) → all ≡ one + held → more ≡ one + h
 no_turns one held all more a b = omega arith
 
 -- a PDU that comes
-pub received_placed : (place : Place) (s : Session) (units : List LogicalUnit) (listing : List Found) (held : Held) (p : Pdu) → (received_at place s units listing held p).fed ≡ Going
-    → (f : Pdu → Bool)
-    → count_by f (p ∷ held_pdus held) ≡ count_by f (pdus_of (turns_at place s units listing held p)) + count_by f (held_pdus (received_at place s units listing held p).held)
-received_placed Now s units listing held p going f = count_join f (p ∷ []) (held_pdus held)
-received_placed InTurn s units listing held p going f = in_turn_placed s units listing p held going f
-received_placed (Early at) s units listing held p going f = go (is_held (slice_get held at)) refl going where
-  go : (b : Bool) → is_held (slice_get held at) ≡ b
-      → (if b then unmoved s units held Closed else unmoved s units (slice_set (padded at held) at (Some p)) Going).fed ≡ Going
-      → count_by f (p ∷ held_pdus held)
-      ≡ 0 + count_by f (held_pdus (if b then unmoved s units held Closed else unmoved s units (slice_set (padded at held) at (Some p)) Going).held)
+pub received_placed : (place : Place) (t : Target) (s : Session) (held : Held) (p : Pdu) → (received_at place t s held p).fed ≡ Going → (f : Pdu → Bool)
+    → count_by f (p ∷ held_pdus held) ≡ count_by f (pdus_of (turns_at place t s held p)) + count_by f (held_pdus (received_at place t s held p).held)
+received_placed Now t s held p going f = count_join f (p ∷ []) (held_pdus held)
+received_placed InTurn t s held p going f = in_turn_placed t s p held going f
+received_placed (Early at) t s held p going f = go (is_held (slice_get held at)) refl going where
+  go : (b : Bool) → is_held (slice_get held at) ≡ b → (if b then Closed else Going) ≡ Going
+      → count_by f (p ∷ held_pdus held) ≡ 0 + count_by f (held_pdus (if b then held else slice_set (padded at held) at (Some p)))
   go true is e = not_closed e
   go false is e =
       no_turns (count_by f (p ∷ [])) (count_by f (held_pdus held)) (count_by f (p ∷ held_pdus held)) (count_by f (held_pdus (slice_set (padded at held) at (Some p))))
       (count_join f (p ∷ []) (held_pdus held)) (more_held f p held at (suc at - length held) is (omega arith))
-received_placed Outside s units listing held p going f = not_closed going
+received_placed Outside t s held p going f = not_closed going

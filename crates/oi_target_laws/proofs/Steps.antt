@@ -2,14 +2,16 @@
 use Rattle.std.proofs.Common.{ℕ, Bool, true, false, ◌≡◌, ◌∙◌, List, [], bytes_eq, flat_map, map, refl, ap, sym, subst, if◌then◌else◌}
 use Rattle.oi_pdu.specs.declared.codec.Pdu.{Pdu}
 use Rattle.oi_target.proofs.Placed.{link_map}
+use Rattle.oi_target.proofs.Told.{step_told}
 use Rattle.oi_target.specs.Runs.{own_requests}
 use Rattle.oi_target.specs.Steps.{logged_in_by, received_by, serving_by, stepped, with_words}
 use Rattle.oi_target.specs.Targets.{Target, ended_by, ended_standing, link_of, nexus_of}
+use Rattle.oi_target.specs.Turns.{Received}
 use Rattle.oi_target.specs.declared.link.Link.{Link}
 use Rattle.oi_target.specs.declared.link.Standing.{Standing}
 use Rattle.oi_target.specs.declared.link.Standing.TheVariants as standing
 use Rattle.oi_target_laws.proofs.Idle.{OneIsBusy, busy_map}
-use Rattle.oi_target_laws.proofs.Learning.{over_standing, resets_busy, resets_moves, resets_stuck}
+use Rattle.oi_target_laws.proofs.Learning.{over_standing, told_busy, told_moves, told_stuck}
 use Rattle.oi_target_laws.proofs.Moves.{Moves, ends, stays}
 use Rattle.oi_target_laws.proofs.Turns.{received_moves, received_stuck, tasks_if}
 use Rattle.oi_target_laws.specs.Histories.{standing_in, standing_of, step_ended, step_taken, step_turns, step_woken, taken_by_login, tasks_at, tasks_in, tasks_under}
@@ -18,7 +20,7 @@ use Rattle.oi_target_login.specs.Logins.{turned}
 use Rattle.oi_target_login.specs.declared.answer.Answer.{Answer}
 use Rattle.oi_target_login.specs.declared.answer.Verdict.{Verdict}
 use Rattle.oi_target_login.specs.declared.answer.Verdict.TheVariants as verdict
-use Rattle.oi_target_session.specs.Arrivals.{Received, place_of}
+use Rattle.oi_target_session.specs.Arrivals.{place_of}
 use Rattle.oi_target_session.specs.Owing.{paid}
 use Rattle.oi_target_session.specs.declared.fed.Fed.{Fed}
 use Rattle.oi_target_session.specs.declared.fed.Fed.TheVariants.{Going, Closed}
@@ -51,7 +53,7 @@ own_moves t (standing.Serving v) p =
     subst (λ (z : List UnitCommand). Moves (commands_of v.session.tasks) (flat_map came_in (step_turns t (standing.Serving v) p)) (map command_of_request (own_requests t (standing.Serving v) p))
     (step_ended t (standing.Serving v) p) z)
     (if_tasks r.fed r.session.tasks ∙ sym (ap commands_of (served_tasks r r.fed)))
-    (received_moves (place_of v.session.discovers v.session.numbers.exp.0 p.head) (paid v.session v.owed) t.units t.listing v.held p) where
+    (received_moves (place_of v.session.discovers v.session.numbers.exp.0 p.head) t (paid v.session v.owed) v.held p) where
       r : Received
       r = received_by v t p
 own_moves t standing.Ended p = stays []
@@ -62,7 +64,7 @@ own_stuck t (standing.LoggingIn login) p was =
     ap is_stuck (login_tasks (with_words t (turned t.rules t.handle login p t.words).words) (turned t.rules t.handle login p t.words).answer
     (turned t.rules t.handle login p t.words).answer.verdict)
 own_stuck t (standing.Serving v) p was =
-    ap is_stuck (served_tasks r r.fed) ∙ received_stuck (place_of v.session.discovers v.session.numbers.exp.0 p.head) (paid v.session v.owed) t.units t.listing v.held p was where
+    ap is_stuck (served_tasks r r.fed) ∙ received_stuck (place_of v.session.discovers v.session.numbers.exp.0 p.head) t (paid v.session v.owed) v.held p was where
       r : Received
       r = received_by v t p
 own_stuck t standing.Ended p was = refl
@@ -97,12 +99,12 @@ pub other_moves : (n : ℕ) (t : Target) (s : Standing) (p : Pdu)
 other_moves n t (standing.LoggingIn login) p =
     login_moves n (with_words t (turned t.rules t.handle login p t.words).words) (turned t.rules t.handle login p t.words).answer
     (turned t.rules t.handle login p t.words).answer.verdict
-other_moves n t (standing.Serving v) p = resets_moves n (received_by v t p).session.resets (received_by v t p).units t.links
+other_moves n t (standing.Serving v) p = told_moves n (received_by v t p).resets t.links (received_by v t p).target.links (step_told t v p).links
 other_moves n t standing.Ended p = stays (commands_of (tasks_in n t.links))
 other_moves n t standing.Closed p = stays (commands_of (tasks_in n t.links))
 
 -- the first that waits lacks data
-ended_stuck : (nexus : List ℕ) (s : Standing) → is_stuck (tasks_at s) ≡ true → is_stuck (tasks_at (ended_standing nexus s)) ≡ true
+pub ended_stuck : (nexus : List ℕ) (s : Standing) → is_stuck (tasks_at s) ≡ true → is_stuck (tasks_at (ended_standing nexus s)) ≡ true
 ended_stuck nexus (standing.LoggingIn p) was = refl
 ended_stuck nexus (standing.Serving v) was = go (bytes_eq v.session.nexus nexus) where
   go : (b : Bool) → is_stuck (tasks_at (if b then standing.Ended else standing.Serving v)) ≡ true
@@ -121,7 +123,7 @@ pub other_stuck : (n : ℕ) (t : Target) (s : Standing) (p : Pdu) → is_stuck (
 other_stuck n t (standing.LoggingIn login) p was =
     login_stuck n (with_words t (turned t.rules t.handle login p t.words).words) (turned t.rules t.handle login p t.words).answer
     (turned t.rules t.handle login p t.words).answer.verdict was
-other_stuck n t (standing.Serving v) p was = resets_stuck n (received_by v t p).session.resets (received_by v t p).units t.links was
+other_stuck n t (standing.Serving v) p was = told_stuck n (received_by v t p).resets t.links (received_by v t p).target.links (step_told t v p).links was
 other_stuck n t standing.Ended p was = was
 other_stuck n t standing.Closed p was = was
 
@@ -136,6 +138,6 @@ pub step_busy : (n : ℕ) (t : Target) (s : Standing) (p : Pdu) → OneIsBusy n 
 step_busy n t (standing.LoggingIn login) p i =
     login_busy n (with_words t (turned t.rules t.handle login p t.words).words) (turned t.rules t.handle login p t.words).answer
     (turned t.rules t.handle login p t.words).answer.verdict i
-step_busy n t (standing.Serving v) p i = resets_busy n (received_by v t p).session.resets (received_by v t p).units t.links i
+step_busy n t (standing.Serving v) p i = told_busy n (received_by v t p).resets t.links (received_by v t p).target.links (step_told t v p).links i
 step_busy n t standing.Ended p i = i
 step_busy n t standing.Closed p i = i

@@ -1,13 +1,15 @@
 -- Each command that the units are asked is executed for one connection.
-use Rattle.std.proofs.Common.{ℕ, zero, suc, ◌+◌, ◌<◌, ◌≤◌, Bool, true, false, ◌≡◌, ◌∙◌, Option, Some, None, List, [], ◌∷◌, ◌++◌, count_by, flat_map, map, refl, ap, sym, subst, arith, if◌then◌else◌, ◌==◌}
+use Rattle.std.proofs.Common.{ℕ, zero, suc, ◌+◌, ◌<◌, ◌≤◌, Bool, true, false, ◌≡◌, ◌∙◌, Option, Some, None, List, [], ◌∷◌, ◌++◌, count_by, flat_map, map, refl, ap, sym, subst, append-nil, arith, if◌then◌else◌, ◌==◌}
 use Rattle.std.proofs.lemmas.Bool.{eqb-true, eqb-false}
 use Rattle.std.proofs.lemmas.List.{map-append}
 use Rattle.oi_pdu.specs.declared.codec.Pdu.{Pdu}
 use Rattle.oi_target.proofs.Placed.{itself}
 use Rattle.oi_target.specs.Events.{Event, Joined, Left, Told, Whole, Malformed, bare_link, heard_of, state_after}
-use Rattle.oi_target.specs.Runs.{event_requests, link_learned, link_own, link_requests, others_requests, own_requests, requests_of, reset_requests}
+use Rattle.oi_target.specs.Runs.{event_requests, in_turn_own, in_turn_requests, link_learned, link_own, link_requests, own_at, own_requests, requests_at, requests_of, reset_requests, step_requests, turn_others, turn_own, turn_requests}
+use Rattle.oi_target.proofs.Told.{AreTold, resets_told, step_told}
 use Rattle.oi_target.specs.Steps.{Step, logged_in_by, received_by, stepped, with_words}
-use Rattle.oi_target.specs.Targets.{Reached, Target, aside, closed_link, ended_by, learned, link_at, link_of, nexus_of, new_link, no_bytes, placed, reset_each, reset_links, without}
+use Rattle.oi_target.specs.Targets.{Reached, Target, aside, closed_link, ended_by, learned, link_at, link_of, nexus_of, new_link, no_bytes, placed, reset_each, without}
+use Rattle.oi_target.specs.Turns.{Received, followed, in_turn, received_at, received_turn, told, turn_of}
 use Rattle.oi_target.specs.declared.config.TargetConfig.{TargetConfig}
 use Rattle.oi_target.specs.declared.link.Link.{Link}
 use Rattle.oi_target.specs.declared.link.Standing.{Standing}
@@ -15,7 +17,7 @@ use Rattle.oi_target.specs.declared.link.Standing.TheVariants as standing
 use Rattle.oi_target_laws.proofs.Accounts.{all_busy, aside_closed, aside_standing}
 use Rattle.oi_target_laws.proofs.Asking.{asked_by, learned_commands}
 use Rattle.oi_target_laws.proofs.Idle.{AreIdle, OneIsBusy, busy_placed, idle_tasks, later_busy}
-use Rattle.oi_target_laws.proofs.Learning.{busy_reset, reset_tasks}
+use Rattle.oi_target_laws.proofs.Learning.{after_all, busy_reset, reset_tasks, resets_tasks, told_busy, woken_join}
 use Rattle.oi_target_laws.proofs.Moves.{count_join}
 use Rattle.oi_target_laws.specs.Histories.{AreBelow, AskedAreExecuted, event_executed, executed_on, link_woken, standing_in, standing_of, step_woken, sum_below, tasks_at, tasks_in, woken_by_all}
 use Rattle.oi_target_laws.specs.Turned.{command_of_request, command_of_task, commands_of}
@@ -23,9 +25,15 @@ use Rattle.oi_target_login.specs.Logins.{turned}
 use Rattle.oi_target_login.specs.declared.answer.Answer.{Answer}
 use Rattle.oi_target_login.specs.declared.answer.Verdict.{Verdict}
 use Rattle.oi_target_login.specs.declared.answer.Verdict.TheVariants as verdict
-use Rattle.oi_target_session.specs.Owing.{unready}
+use Rattle.oi_target_session.specs.Arrivals.{Held, advanced, place_of}
+use Rattle.oi_target_session.specs.Executions.{if_going}
+use Rattle.oi_target_session.specs.Owing.{paid, unready}
 use Rattle.oi_target_session.specs.Runs.{ready}
-use Rattle.oi_target_session.specs.Sessions.{spared}
+use Rattle.oi_target_session.specs.Sessions.{Session, Turn, spared, without_resets}
+use Rattle.oi_target_session.specs.declared.fed.Fed.{Fed}
+use Rattle.oi_target_session.specs.declared.fed.Fed.TheVariants.{Going, Closed}
+use Rattle.oi_target_session.specs.declared.place.Place.{Place}
+use Rattle.oi_target_session.specs.declared.place.Place.TheVariants.{Now, InTurn, Early, Outside}
 use Rattle.oi_target_session.specs.declared.reset.Reset.{Reset}
 use Rattle.oi_target_session.specs.declared.reset.Reset.TheVariants.{Unit as OfUnit, Whole as OfTarget}
 use Rattle.oi_target_tasks.specs.declared.task.Task.{Task}
@@ -115,9 +123,9 @@ below_reset : (k : ℕ) (r : Reset) (units : List LogicalUnit) (ls : List Link) 
 below_reset k r units [] are = tt
 below_reset k r units (l ∷ ls) are = (are.0, below_reset k r (learned r units l.standing).units ls are.1)
 
-below_resets : (k : ℕ) (resets : List Reset) (units : List LogicalUnit) (ls : List Link) → LinksBelow k ls → LinksBelow k (reset_links resets units ls).links
-below_resets k [] units ls are = are
-below_resets k (r ∷ rs) units ls are = below_resets k rs (reset_each r units ls).units (reset_each r units ls).links (below_reset k r units ls are)
+below_told : (k : ℕ) (resets : List Reset) (ls ks : List Link) → AreTold resets ls ks → LinksBelow k ls → LinksBelow k ks
+below_told k [] ls ks told are = subst (λ (z : List Link). LinksBelow k z) (sym told) are
+below_told k (r ∷ rs) ls ks told are = below_told k rs (reset_each r told.0 ls).links ks told.1 (below_reset k r told.0 ls are)
 
 below_login : (k : ℕ) (t : Target) (a : Answer) (v : Verdict) → LinksBelow k t.links → LinksBelow k (logged_in_by t a v).target.links
 below_login k t a verdict.Going are = are
@@ -128,7 +136,7 @@ below_step : (k : ℕ) (t : Target) (s : Standing) (p : Pdu) → LinksBelow k t.
 below_step k t (standing.LoggingIn login) p are =
     below_login k (with_words t (turned t.rules t.handle login p t.words).words) (turned t.rules t.handle login p t.words).answer
     (turned t.rules t.handle login p t.words).answer.verdict are
-below_step k t (standing.Serving v) p are = below_resets k (received_by v t p).session.resets (received_by v t p).units t.links are
+below_step k t (standing.Serving v) p are = below_told k (received_by v t p).resets t.links (received_by v t p).target.links (step_told t v p).links are
 below_step k t standing.Ended p are = are
 below_step k t standing.Closed p are = are
 
@@ -216,16 +224,97 @@ resets_sum k f (r ∷ rs) units ls below busy =
           counted_join f (ready (spared r (tasks_in n ls))) (woken_by_all rs (unready (spared r (tasks_in n ls))))
           ∙ ap (λ (z : List Task). first n + counted f (woken_by_all rs z)) (sym (reset_tasks n r units ls))
 
-others_sum : (k : ℕ) (f : UnitCommand → Bool) (t : Target) (s : Standing) (p : Pdu) → LinksBelow k t.links → ((n : ℕ) → OneIsBusy n t.links)
-    → count_by f (asked_by (others_requests t s p)) ≡ sum_below k (λ n. counted f (step_woken t s p (standing_in n t.links)))
-others_sum k f t (standing.LoggingIn login) p below busy = sym (sum_zero k (λ n. 0) (λ n. refl))
-others_sum k f t (standing.Serving v) p below busy = resets_sum k f (received_by v t p).session.resets (received_by v t p).units t.links below busy
-others_sum k f t standing.Ended p below busy = sym (sum_zero k (λ n. 0) (λ n. refl))
-others_sum k f t standing.Closed p below busy = sym (sum_zero k (λ n. 0) (λ n. refl))
+zero_more : (a : ℕ) → a ≡ 0 → 0 ≡ 0 + a
+zero_more a is = omega arith
+
+nothing_summed : (k : ℕ) → 0 ≡ 0 + sum_below k (λ n. 0)
+nothing_summed k = zero_more (sum_below k (λ n. 0)) (sum_zero k (λ n. 0) (λ n. refl))
+
+-- a PDU whose turn it is, and those that were held
+turn_sum : (k : ℕ) (f : UnitCommand → Bool) (t : Target) (s : Session) (p : Pdu) → LinksBelow k t.links → ((n : ℕ) → OneIsBusy n t.links)
+    → count_by f (asked_by (turn_requests t s p))
+    ≡ count_by f (asked_by (turn_own t s p)) + sum_below k (λ n. counted f (woken_by_all (turn_of t s p).session.resets (tasks_in n t.links)))
+turn_sum k f t s p below busy =
+    let turn : Turn = turn_of t s p in
+    asked_join f (turn_own t s p) (turn_others t s p)
+    ∙ ap (λ (z : ℕ). count_by f (asked_by (turn_own t s p)) + z) (resets_sum k f turn.session.resets turn.units t.links below busy)
+
+in_turn_sum : (k : ℕ) (f : UnitCommand → Bool) (t : Target) (s : Session) (p : Pdu) (held : Held) → LinksBelow k t.links → ((n : ℕ) → OneIsBusy n t.links)
+    → count_by f (asked_by (in_turn_requests t s p held))
+    ≡ count_by f (asked_by (in_turn_own t s p held)) + sum_below k (λ n. counted f (woken_by_all (in_turn t s p held).resets (tasks_in n t.links)))
+in_turn_sum k f t s p [] below busy = turn_sum k f t (advanced s) p below busy
+in_turn_sum k f t s p (None ∷ held) below busy = turn_sum k f t (advanced s) p below busy
+in_turn_sum k f t s p (Some next ∷ held) below busy =
+    go turn.fed (turn_sum k f t (advanced s) p below busy)
+    (in_turn_sum k f (told t turn) (without_resets turn.session) next held
+    (below_told k one t.links (told t turn).links (resets_told one turn.units t.links) below)
+    (λ n. told_busy n one t.links (told t turn).links (resets_told one turn.units t.links) (busy n))) where
+      turn : Turn
+      turn = turn_of t (advanced s) p
+
+      one : List Reset
+      one = turn.session.resets
+
+      end : Received
+      end = in_turn (told t turn) (without_resets turn.session) next held
+
+      mine : List Request
+      mine = turn_own t (advanced s) p
+
+      more : List Request
+      more = in_turn_own (told t turn) (without_resets turn.session) next held
+
+      first : List Request
+      first = turn_requests t (advanced s) p
+
+      rest : List Request
+      rest = in_turn_requests (told t turn) (without_resets turn.session) next held
+
+      early : ℕ → ℕ
+      early n = counted f (woken_by_all one (tasks_in n t.links))
+
+      later : ℕ → ℕ
+      later n = counted f (woken_by_all end.resets (tasks_in n (told t turn).links))
+
+      each : (n : ℕ) → counted f (woken_by_all (one ++ end.resets) (tasks_in n t.links)) ≡ early n + later n
+      each n =
+          ap (counted f) (woken_join one end.resets (tasks_in n t.links))
+          ∙ counted_join f (woken_by_all one (tasks_in n t.links)) (woken_by_all end.resets (after_all one (tasks_in n t.links)))
+          ∙ ap (λ (z : List Task). early n + counted f (woken_by_all end.resets z)) (sym (resets_tasks n one turn.units t.links))
+
+      go : (g : Fed) → count_by f (asked_by first) ≡ count_by f (asked_by mine) + sum_below k early
+          → count_by f (asked_by rest) ≡ count_by f (asked_by more) + sum_below k later
+          → count_by f (asked_by (first ++ if_going g rest))
+          ≡ count_by f (asked_by (mine ++ if_going g more)) + sum_below k (λ n. counted f (woken_by_all (followed g (received_turn t held turn) end).resets (tasks_in n t.links)))
+      go Closed a b =
+          ap (λ (z : List Request). count_by f (asked_by z)) (append-nil first) ∙ a
+          ∙ ap (λ (z : List Request). count_by f (asked_by z) + sum_below k early) (sym (append-nil mine))
+      go Going a b =
+          asked_join f first rest
+          ∙ four (count_by f (asked_by mine)) (sum_below k early) (count_by f (asked_by more)) (sum_below k later) (count_by f (asked_by first)) (count_by f (asked_by rest)) a b
+          ∙ ap (λ (z : ℕ). z + (sum_below k early + sum_below k later)) (sym (asked_join f mine more))
+          ∙ ap (λ (z : ℕ). count_by f (asked_by (mine ++ more)) + z)
+          (sym (sum_both k early later (λ n. counted f (woken_by_all (one ++ end.resets) (tasks_in n t.links))) each))
+
+received_sum : (k : ℕ) (f : UnitCommand → Bool) (place : Place) (t : Target) (s : Session) (held : Held) (p : Pdu) → LinksBelow k t.links → ((n : ℕ) → OneIsBusy n t.links)
+    → count_by f (asked_by (requests_at place t s held p))
+    ≡ count_by f (asked_by (own_at place t s held p)) + sum_below k (λ n. counted f (woken_by_all (received_at place t s held p).resets (tasks_in n t.links)))
+received_sum k f Now t s held p below busy = turn_sum k f t s p below busy
+received_sum k f InTurn t s held p below busy = in_turn_sum k f t s p held below busy
+received_sum k f (Early at) t s held p below busy = nothing_summed k
+received_sum k f Outside t s held p below busy = nothing_summed k
+
+step_sum : (k : ℕ) (f : UnitCommand → Bool) (t : Target) (s : Standing) (p : Pdu) → LinksBelow k t.links → ((n : ℕ) → OneIsBusy n t.links)
+    → count_by f (asked_by (step_requests t s p)) ≡ count_by f (asked_by (own_requests t s p)) + sum_below k (λ n. counted f (step_woken t s p (standing_in n t.links)))
+step_sum k f t (standing.LoggingIn login) p below busy = nothing_summed k
+step_sum k f t (standing.Serving v) p below busy =
+    received_sum k f (place_of v.session.discovers v.session.numbers.exp.0 p.head) t (paid v.session v.owed) v.held p below busy
+step_sum k f t standing.Ended p below busy = nothing_summed k
+step_sum k f t standing.Closed p below busy = nothing_summed k
 
 closed_woken : (t : Target) (s : Standing) (p : Pdu) → step_woken t s p standing.Closed ≡ []
 closed_woken t (standing.LoggingIn login) p = refl
-closed_woken t (standing.Serving v) p = none_woken (received_by v t p).session.resets
+closed_woken t (standing.Serving v) p = none_woken (received_by v t p).resets
 closed_woken t standing.Ended p = refl
 closed_woken t standing.Closed p = refl
 
@@ -240,9 +329,7 @@ link_sum k f m t p None found below busy =
       go true = refl
       go false = refl
 link_sum k f m t p (Some l) found below busy =
-    asked_join f own others
-    ∙ ap (λ (z : ℕ). count_by f (asked_by own) + z)
-    (others_sum k f (aside m t) l.standing p (below_placed k (closed_link m) t.links below) (λ n. busy_placed n (closed_link m) t.links (busy n)))
+    step_sum k f (aside m t) l.standing p (below_placed k (closed_link m) t.links below) (λ n. busy_placed n (closed_link m) t.links (busy n))
     ∙ sym (sum_more k m (count_by f (asked_by own)) (λ n. counted f (step_woken (aside m t) l.standing p (standing_in n (aside m t).links)))
     (λ n. count_by f (if m == n then asked_by own else commands_of (link_woken t m (Some l) p (standing_in n t.links))))
     (found_below k m t.links l below found)
@@ -252,9 +339,6 @@ link_sum k f m t p (Some l) found below busy =
     ∙ ap (λ (z : Standing). counted f (step_woken (aside m t) l.standing p z)) (sym (aside_standing n m t is)))) where
       own : List Request
       own = own_requests (aside m t) l.standing p
-
-      others : List Request
-      others = others_requests (aside m t) l.standing p
 
 event_sum : (k : ℕ) (f : UnitCommand → Bool) (t : Target) (e : Event) → LinksBelow k t.links → ((n : ℕ) → OneIsBusy n t.links)
     → count_by f (asked_by (event_requests t e)) ≡ sum_below k (λ n. count_by f (event_executed n t e))

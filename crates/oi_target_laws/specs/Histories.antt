@@ -47,7 +47,7 @@ tasks_in n links = tasks_at (standing_in n links)
 -- the PDUs that have their turn as one comes on their connection
 abbrev pub step_turns : Target → Standing → Pdu → List Turned
 step_turns t (standing.Serving v) pdu =
-    turns_at (place_of v.session.discovers v.session.numbers.exp.0 pdu.head) (paid v.session v.owed) t.units t.listing v.held pdu
+    turns_at (place_of v.session.discovers v.session.numbers.exp.0 pdu.head) t (paid v.session v.owed) v.held pdu
 step_turns t s pdu = []
 
 -- of a connection that is there
@@ -76,7 +76,7 @@ woken_by_all (reset ∷ resets) ts = ready (spared reset ts) ++ woken_by_all res
 
 -- those of another connection, as a PDU of this one comes
 abbrev pub step_woken : Target → Standing → Pdu → Standing → List Task
-step_woken t (standing.Serving v) pdu other = woken_by_all (received_by v t pdu).session.resets (tasks_at other)
+step_woken t (standing.Serving v) pdu other = woken_by_all (received_by v t pdu).resets (tasks_at other)
 step_woken t s pdu other = []
 
 -- of a connection that is there
@@ -120,7 +120,7 @@ AskedAreExecuted =
 -- the commands that a PDU of the connection ends before they are executed
 abbrev pub step_ended : Target → Standing → Pdu → List UnitCommand
 step_ended t (standing.Serving v) pdu =
-    ended_at (place_of v.session.discovers v.session.numbers.exp.0 pdu.head) (paid v.session v.owed) t.units t.listing v.held pdu
+    ended_at (place_of v.session.discovers v.session.numbers.exp.0 pdu.head) t (paid v.session v.owed) v.held pdu
 step_ended t s pdu = []
 
 -- of a connection that is there
@@ -146,7 +146,7 @@ taken_by_login v other = []
 -- what a PDU of a connection takes from another one: by resets, or by a login
 abbrev pub step_taken : Target → Standing → Pdu → Standing → List Task
 step_taken t (standing.LoggingIn p) pdu other = taken_by_login (turned t.rules t.handle p pdu t.words).answer.verdict other
-step_taken t (standing.Serving v) pdu other = taken_by_all (received_by v t pdu).session.resets (tasks_at other)
+step_taken t (standing.Serving v) pdu other = taken_by_all (received_by v t pdu).resets (tasks_at other)
 step_taken t s pdu other = []
 
 -- of a connection that is there
@@ -202,3 +202,17 @@ ExecutedAreComplete = (c : TargetConfig) (es : List Event) → AreComplete (requ
 -- a command is executed at once when those before it are and its data are complete: the first that waits lacks data
 abbrev pub ReadyAreExecuted : Type 0
 ReadyAreExecuted = (n : ℕ) (c : TargetConfig) (es : List Event) → is_stuck (tasks_on n c es) ≡ true
+
+-- so it is of each connection
+abbrev pub AreStuck : List Link → Type 0
+AreStuck [] = Unit {0}
+AreStuck (l ∷ ls) = (is_stuck (tasks_at l.standing) ≡ true) × AreStuck ls
+
+-- as it has its turn, a PDU finds no command that could be executed: on its own connection, and on the others
+abbrev pub FindsNoneReady : List Turned → Type 0
+FindsNoneReady [] = Unit {0}
+FindsNoneReady (turn ∷ turns) = (is_stuck turn.session.tasks ≡ true) × AreStuck turn.target.links × FindsNoneReady turns
+
+-- what a PDU lets be executed is executed before the next one has its turn, also where both were held
+abbrev pub TurnsFindNoneReady : Type 0
+TurnsFindNoneReady = (n : ℕ) (c : TargetConfig) (es : List Event) → FindsNoneReady (turns_on n c es)

@@ -5,9 +5,10 @@ use Rattle.oi_pdu.specs.declared.codec.Pdu.{Pdu}
 use Rattle.oi_pdu.specs.declared.header.Header.{Header}
 use Rattle.oi_pdu.specs.declared.header.Header.TheVariants as head
 use Rattle.oi_pdu.specs.declared.header.TaskManagement.{TaskManagement}
-use Rattle.oi_sendtargets.specs.declared.found.Found.{Found}
+use Rattle.oi_target.specs.Targets.{Target}
+use Rattle.oi_target.specs.Turns.{told, turn_of}
 use Rattle.oi_target_session.specs.Arrivals.{Held, advanced, is_held}
-use Rattle.oi_target_session.specs.Sessions.{Session, handled, served}
+use Rattle.oi_target_session.specs.Sessions.{Session, handled, without_resets}
 use Rattle.oi_target_session.specs.declared.fed.Fed.{Fed}
 use Rattle.oi_target_session.specs.declared.fed.Fed.TheVariants.{Going, Closed}
 use Rattle.oi_target_session.specs.declared.place.Place.{Place}
@@ -21,16 +22,15 @@ use Rattle.oi_units.specs.Units.{unit_named}
 use Rattle.oi_units.specs.declared.command.UnitCommand.{UnitCommand}
 use Rattle.oi_units.specs.declared.unit.LogicalUnit.{LogicalUnit}
 
--- a PDU that had its turn, and what it found: the session, the units, and what a discovery is told
+-- a PDU that had its turn, and what it found: the session, and the target with what all others hold
 pub record Turned : Type 0 where
   pub session : Session
-  pub units : List LogicalUnit
-  pub listing : List Found
+  pub target : Target
   pub pdu : Pdu
 
 -- it, in its parts
-abbrev pub turned_at : Session → List LogicalUnit → List Found → Pdu → Turned
-turned_at s units listing p = record { session = s; units = units; listing = listing; pdu = p }
+abbrev pub turned_at : Target → Session → Pdu → Turned
+turned_at t s p = record { session = s; target = t; pdu = p }
 
 -- where the connection stays
 abbrev pub turns_if : Fed → List Turned → List Turned
@@ -38,20 +38,20 @@ turns_if Closed turns = []
 turns_if Going turns = turns
 
 -- a PDU, and those that were held and follow it at once while the connection stays
-abbrev pub in_turn_turns : Session → List LogicalUnit → List Found → Pdu → Held → List Turned
-in_turn_turns s units listing p [] = turned_at (advanced s) units listing p ∷ []
-in_turn_turns s units listing p (None ∷ held) = turned_at (advanced s) units listing p ∷ []
-in_turn_turns s units listing p (Some next ∷ held) =
-    turned_at (advanced s) units listing p
-    ∷ turns_if (served (advanced s) units listing p).fed
-    (in_turn_turns (served (advanced s) units listing p).session (served (advanced s) units listing p).units listing next held)
+abbrev pub in_turn_turns : Target → Session → Pdu → Held → List Turned
+in_turn_turns t s p [] = turned_at t (advanced s) p ∷ []
+in_turn_turns t s p (None ∷ held) = turned_at t (advanced s) p ∷ []
+in_turn_turns t s p (Some next ∷ held) =
+    turned_at t (advanced s) p
+    ∷ turns_if (turn_of t (advanced s) p).fed
+    (in_turn_turns (told t (turn_of t (advanced s) p)) (without_resets (turn_of t (advanced s) p).session) next held)
 
 -- the PDUs that have their turn as one comes; none where it is held for later
-abbrev pub turns_at : Place → Session → List LogicalUnit → List Found → Held → Pdu → List Turned
-turns_at Now s units listing held p = turned_at s units listing p ∷ []
-turns_at InTurn s units listing held p = in_turn_turns s units listing p held
-turns_at (Early at) s units listing held p = []
-turns_at Outside s units listing held p = []
+abbrev pub turns_at : Place → Target → Session → Held → Pdu → List Turned
+turns_at Now t s held p = turned_at t s p ∷ []
+turns_at InTurn t s held p = in_turn_turns t s p held
+turns_at (Early at) t s held p = []
+turns_at Outside t s held p = []
 
 -- the command of a task
 abbrev pub command_of_task : Task → UnitCommand
@@ -77,7 +77,7 @@ brought h = []
 
 -- whether the connection stays behind a PDU
 abbrev pub fed_by : Turned → Fed
-fed_by t = (handled t.session t.units t.listing t.pdu.head t.pdu.payload).fed
+fed_by t = (handled t.session t.target.units t.target.listing t.pdu.head t.pdu.payload).fed
 
 -- the command that came by a PDU; one that closes the connection is not taken
 abbrev pub came_in : Turned → List UnitCommand
@@ -104,7 +104,7 @@ taken_in s units h = []
 -- the commands that end before they are executed: all, where the connection closes
 abbrev pub ended_as : Fed → Turned → List UnitCommand
 ended_as Closed t = commands_of t.session.tasks
-ended_as Going t = commands_of (taken_in t.session t.units t.pdu.head)
+ended_as Going t = commands_of (taken_in t.session t.target.units t.pdu.head)
 
 -- those that a PDU ends
 abbrev pub ended_in : Turned → List UnitCommand
@@ -118,5 +118,5 @@ unplaced (Early at) s held = if is_held (slice_get held at) then commands_of s.t
 unplaced Outside s held = commands_of s.tasks
 
 -- the commands that end as a PDU comes
-abbrev pub ended_at : Place → Session → List LogicalUnit → List Found → Held → Pdu → List UnitCommand
-ended_at place s units listing held p = flat_map ended_in (turns_at place s units listing held p) ++ unplaced place s held
+abbrev pub ended_at : Place → Target → Session → Held → Pdu → List UnitCommand
+ended_at place t s held p = flat_map ended_in (turns_at place t s held p) ++ unplaced place s held

@@ -1,14 +1,14 @@
 ghost use Rattle.oi_target_laws.specs.Arrivals.{EachHasItsTurn};
 ghost use Rattle.oi_target_laws.specs.Conflicts.{ConflictIsExact, ConflictsChangeNothing};
-ghost use Rattle.oi_target_laws.specs.Histories.{AskedAreExecuted, EachIsAccounted, ExecutedAreAsked, ExecutedAreComplete, ExecutedInOrder, ReadyAreExecuted};
+ghost use Rattle.oi_target_laws.specs.Histories.{AskedAreExecuted, EachIsAccounted, ExecutedAreAsked, ExecutedAreComplete, ExecutedInOrder, ReadyAreExecuted, TurnsFindNoneReady};
 ghost use Rattle.oi_target_laws.specs.Logins.{LoginsAreHeard, ServedHaveProved};
 ghost use Rattle.oi_target_laws.specs.Numbers.{NextIsExpected, NumbersSucceed, SameAreEqual, TurnsAreLast};
 
 /// On each connection the order of execution is the order in which its commands came, which is that of their turns, and each command that
 /// came was executed once, or was ended once before by task management (RFC 7143, section 11.5; SAM-5, section 7.7) or with its session or
 /// connection, or still waits. It is executed only when its data are complete, and at once when, besides, those before it are executed or
-/// ended, be it by another session's reset. What is executed on a connection is among what the units were asked, in the same order, and they
-/// were asked nothing else.
+/// ended, be it by another session's reset: no PDU that has its turn finds a command that could be executed, on any connection. What is
+/// executed on a connection is among what the units were asked, in the same order, and they were asked nothing else.
 pub fn commands_keep_their_order()
     ensures order { ExecutedInOrder }
     ensures accounted { EachIsAccounted }
@@ -16,6 +16,7 @@ pub fn commands_keep_their_order()
     ensures no_other { AskedAreExecuted }
     ensures complete { ExecutedAreComplete }
     ensures ready { ReadyAreExecuted }
+    ensures turns { TurnsFindNoneReady }
 {}
 
 /// A command of a unit's disk is answered RESERVATION CONFLICT exactly where a reservation of another nexus forbids what it wants, and

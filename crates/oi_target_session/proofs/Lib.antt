@@ -5,5 +5,4 @@ pub mod Joins
 pub mod Pieces
 pub mod Room
 pub mod Wakes
-pub mod Walked
 pub mod Walks

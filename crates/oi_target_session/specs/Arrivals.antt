@@ -1,18 +1,16 @@
 -- Commands come in the order of their CmdSN (RFC 7143, section 4.2.2.1). A PDU that is early is held until those before it
 -- came; one outside the window, and one whose number came before, closes the connection.
-use Rattle.std.specs.Prelude.{ℕ, suc, ◌-◌, Bool, false, not, ◌||◌, Option, Some, None, is_some, List, [], ◌∷◌, ◌++◌, length, replicate, slice_set, ◌==◌, nat_lt, if◌then◌else◌}
+use Rattle.std.specs.Prelude.{ℕ, suc, ◌-◌, Bool, false, not, ◌||◌, Option, Some, None, is_some, List, ◌++◌, length, replicate, slice_set, ◌==◌, nat_lt, if◌then◌else◌}
 use Rattle.std.specs.List.{slice_get}
 use Rattle.oi_base.specs.Serials.{distance, successor}
 use Rattle.oi_pdu.specs.declared.codec.Pdu.{Pdu}
 use Rattle.oi_pdu.specs.declared.header.Header.{Header}
 use Rattle.oi_pdu.specs.declared.header.Header.TheVariants as head
-use Rattle.oi_sendtargets.specs.declared.found.Found.{Found}
-use Rattle.oi_target_session.specs.Sessions.{Session, Turn, served}
+use Rattle.oi_target_session.specs.Sessions.{Session}
 use Rattle.oi_target_session.specs.declared.fed.Fed.{Fed}
 use Rattle.oi_target_session.specs.declared.fed.Fed.TheVariants.{Going, Closed}
 use Rattle.oi_target_session.specs.declared.place.Place.{Place}
 use Rattle.oi_target_session.specs.declared.place.Place.TheVariants.{Now, InTurn, Early, Outside}
-use Rattle.oi_units.specs.declared.unit.LogicalUnit.{LogicalUnit}
 
 -- the window holds 32 numbers
 abbrev pub window : ℕ
@@ -40,36 +38,9 @@ place_of discovers exp h = Now
 abbrev pub Held : Type 0
 Held = List (Option Pdu)
 
--- what becomes of a PDU that came
-pub record Received : Type 0 where
-  pub session : Session
-  pub units : List LogicalUnit
-  pub held : Held
-  pub sent : List Pdu
-  pub fed : Fed
-
-abbrev pub holding : Held → Turn → Received
-holding held t = record { session = t.session; units = t.units; held = held; sent = t.sent; fed = t.fed }
-
-abbrev pub ahead_of : List Pdu → Received → Received
-ahead_of sent r = record { session = r.session; units = r.units; held = r.held; sent = sent ++ r.sent; fed = r.fed }
-
 -- the number that is expected came
 abbrev pub advanced : Session → Session
 advanced s = record s { numbers = record { exp = record { 0 = successor s.numbers.exp.0 }; stat = s.numbers.stat } }
-
--- where the connection stays
-abbrev pub followed : Fed → Held → Turn → Received → Received
-followed Closed held t rest = holding held t
-followed Going held t rest = ahead_of t.sent rest
-
--- PDUs in turn: those that are held and follow it at once are served behind it
-abbrev pub in_turn : Session → List LogicalUnit → List Found → Pdu → Held → Received
-in_turn s units listing p [] = holding [] (served (advanced s) units listing p)
-in_turn s units listing p (None ∷ held) = holding held (served (advanced s) units listing p)
-in_turn s units listing p (Some next ∷ held) =
-    followed (served (advanced s) units listing p).fed held (served (advanced s) units listing p)
-    (in_turn (served (advanced s) units listing p).session (served (advanced s) units listing p).units listing next held)
 
 -- the places up to this one are there
 abbrev pub padded : ℕ → Held → Held
@@ -79,16 +50,9 @@ abbrev pub is_held : Option (Option Pdu) → Bool
 is_held None = false
 is_held (Some slot) = is_some slot
 
-abbrev pub unmoved : Session → List LogicalUnit → Held → Fed → Received
-unmoved s units held fed = record { session = s; units = units; held = held; sent = []; fed = fed }
+-- an early PDU is put in its place. A second one with its number is not held, and closes the connection
+abbrev pub held_with : ℕ → Held → Pdu → Held
+held_with at held p = if is_held (slice_get held at) then held else slice_set (padded at held) at (Some p)
 
-abbrev pub received_at : Place → Session → List LogicalUnit → List Found → Held → Pdu → Received
-received_at Now s units listing held p = holding held (served s units listing p)
-received_at InTurn s units listing held p = in_turn s units listing p held
-received_at (Early at) s units listing held p =
-    if is_held (slice_get held at) then unmoved s units held Closed
-    else unmoved s units (slice_set (padded at held) at (Some p)) Going
-received_at Outside s units listing held p = unmoved s units held Closed
-
-abbrev pub received : Session → List LogicalUnit → List Found → Held → Pdu → Received
-received s units listing held p = received_at (place_of s.discovers s.numbers.exp.0 p.head) s units listing held p
+abbrev pub held_fed : ℕ → Held → Fed
+held_fed at held = if is_held (slice_get held at) then Closed else Going

@@ -1,20 +1,14 @@
-ghost use Rattle.oi_target_session.specs.Executions.{RepliesAreSent, RunsExecute};
+ghost use Rattle.oi_target_session.specs.Executions.{RepliesAreSent, ServedExecute};
 ghost use Rattle.oi_target_session.specs.Owing.{WokenInOrder};
-ghost use Rattle.oi_target_session.specs.Runs.{RepliesInOrder, RunsJoin, UnitsInOrder};
+ghost use Rattle.oi_target_session.specs.Runs.{RepliesInOrder, UnitsInOrder};
 ghost use Rattle.oi_target_session.specs.Sequences.{RoomIsEnough};
 
-/// What becomes of PDUs depends on them and their order alone: those that came in two parts come to the same as in one.
-#[tactic(auto, using(crate::proofs::Joins::runs_join))]
-pub fn parts_come_to_the_whole()
-    ensures { RunsJoin }
-{}
-
 /// Commands are executed one after another, in order, each on the units that the one before left, and the replies that are
-/// sent are those of the units. Nothing else that comes on a connection changes the units. What is executed behind another session's
+/// sent are those of the units. Nothing else that is served changes the units. What is executed behind another session's
 /// reset is so too, and the replies that are owed are those of the units.
-#[tactic(auto, using(crate::proofs::Answered::replies_are_sent, crate::proofs::Executed::runs_execute, crate::proofs::Joins::units_in_order, crate::proofs::Joins::replies_in_order, crate::proofs::Wakes::woken_in_order))]
+#[tactic(auto, using(crate::proofs::Answered::replies_are_sent, crate::proofs::Executed::served_units, crate::proofs::Joins::units_in_order, crate::proofs::Joins::replies_in_order, crate::proofs::Wakes::woken_in_order))]
 pub fn execution_is_sequential()
-    ensures run { RunsExecute }
+    ensures served { ServedExecute }
     ensures units { UnitsInOrder }
     ensures replies { RepliesInOrder }
     ensures sent { RepliesAreSent }

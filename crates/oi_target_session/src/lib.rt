@@ -2,8 +2,8 @@
 #![tactic(auto)]
 
 mod answers;
-mod arrive;
 mod data;
+mod early;
 mod fed;
 mod laws;
 mod limits;
@@ -15,10 +15,11 @@ mod reset;
 mod session;
 mod text;
 
-pub use arrive::{receive, receive_all};
+pub use early::hold;
 pub use fed::Fed;
-pub use laws::{data_fit_their_room, execution_is_sequential, parts_come_to_the_whole};
+pub use laws::{data_fit_their_room, execution_is_sequential};
 pub use limits::{Limits, Numbers};
 pub use owed::Owed;
+pub use place::{Place, place_of};
 pub use reset::Reset;
 pub use session::Session;

@@ -20,7 +20,6 @@ struct Bench {
     alloc: Global,
     session: Session,
     units: Units,
-    held: VecDeque<Option<Pdu>>,
     out: Vec<u8>,
 }
 
@@ -37,40 +36,25 @@ impl Bench {
             alloc,
             session: Session::new(alloc, nexus, false, LIMITS, numbers),
             units: Units::new(alloc, &[1024])?,
-            held: VecDeque::new(alloc),
             out: Vec::new(alloc),
         })
     }
 
-    // A READ CAPACITY with this tag and CmdSN.
+    // A READ CAPACITY with this tag has its turn.
     fn meets(&mut self, tag: u32, cmdsn: u32) -> Result<Fed, Fail> {
-        self.out.clear();
-        let pdu = Pdu {
-            head: capacity(tag, cmdsn),
-            payload: Blob::new(self.alloc),
-        };
-        let fed = receive(
-            &mut self.session,
-            &mut self.units,
-            &[],
-            &mut self.held,
-            pdu,
-            &mut self.out,
-        )?;
+        let pdu = read_capacity(self.alloc, tag, cmdsn);
+        self.session.advance();
+        let fed = self
+            .session
+            .serve(&mut self.units, &[], pdu, &mut self.out)?;
         Ok(fed)
     }
+}
 
-    // It is answered so.
-    fn answers(
-        &mut self,
-        rt: &impl Abort,
-        (tag, cmdsn): (u32, u32),
-        fed: Fed,
-        wanted: &[u8],
-    ) -> Result<(), Fail> {
-        assert_eq!(rt; self.meets(tag, cmdsn)?, fed);
-        assert_eq!(rt; self.out.as_slice(), wanted);
-        Ok(())
+fn read_capacity(alloc: Global, tag: u32, cmdsn: u32) -> Pdu {
+    Pdu {
+        head: capacity(tag, cmdsn),
+        payload: Blob::new(alloc),
     }
 }
 
@@ -99,20 +83,46 @@ fn blocks(tag: u8, stat: u8, exp: u8, max: u8) -> [u8; 56] {
     ]
 }
 
-// The repeat is outside the window, and closes the connection.
 #[test]
-fn capacity_and_its_repeat(rt: HostRuntime) -> Result<(), Fail> {
+fn capacity_is_answered(rt: HostRuntime) -> Result<(), Fail> {
     let mut bench = Bench::new(rt.alloc())?;
-    bench.answers(&rt, (0, 1), Fed::Going, &blocks(0, 3, 2, 33))?;
-    bench.answers(&rt, (0, 1), Fed::Closed, &[])
+    assert_eq!(rt; bench.meets(0, 1)?, Fed::Going);
+    assert_eq!(rt; bench.out.as_slice(), blocks(0, 3, 2, 33).as_slice());
+    Ok(())
 }
 
-// The second command comes first, and waits for the one before it.
+// CmdSN, and the place where 1 is expected, or 4,294,967,295.
 #[test]
-fn an_early_command_is_held(rt: HostRuntime) -> Result<(), Fail> {
-    let mut bench = Bench::new(rt.alloc())?;
-    bench.answers(&rt, (6, 2), Fed::Going, &[])?;
-    let mut wanted = Vec::from_slice(rt.alloc(), &blocks(5, 3, 2, 33))?;
-    wanted.extend_from_slice(&blocks(6, 4, 3, 34))?;
-    bench.answers(&rt, (5, 1), Fed::Going, &wanted)
+fn places_of_commands(rt: HostRuntime) -> Result<(), Fail> {
+    for (cmdsn, place, late) in [
+        (1, Place::InTurn, Place::Early(1)),
+        (2, Place::Early(0), Place::Early(2)),
+        (30, Place::Early(28), Place::Early(30)),
+        (31, Place::Early(29), Place::Outside),
+        (32, Place::Early(30), Place::Outside),
+        (33, Place::Outside, Place::Outside),
+        (0, Place::Outside, Place::Early(0)),
+        (4_294_967_295, Place::Outside, Place::InTurn),
+    ] {
+        assert_eq!(rt; place_of(false, Serial(1), capacity(0, cmdsn)), place);
+        assert_eq!(rt;
+            place_of(false, Serial(4_294_967_295), capacity(0, cmdsn)),
+            late
+        );
+    }
+    Ok(())
+}
+
+// The second command behind the expected one comes before the first, and twice.
+#[test]
+fn early_pdus_are_held(rt: HostRuntime) -> Result<(), Fail> {
+    let mut held = VecDeque::new(rt.alloc());
+    for (at, fed) in [(1, Fed::Going), (1, Fed::Closed), (0, Fed::Going)] {
+        assert_eq!(rt;
+            hold(&mut held, at, read_capacity(rt.alloc(), at, 2 + at))?,
+            fed
+        );
+    }
+    assert_eq!(rt; held.len(), 2);
+    Ok(())
 }

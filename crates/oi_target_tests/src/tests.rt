@@ -59,6 +59,13 @@ const OTHER_WRITE: &str =
 const OTHER_READ: &str =
     "01c100000000000000010000000000000000000a00000200000000010000000428000000000000000100000000000000";
 
+// That READ(10) under CmdSN 3, and before it in the order of numbers a LOGICAL UNIT RESET of unit 0 under CmdSN 2.
+const HELD_READ: &str =
+    "01c100000000000000010000000000000000000a00000200000000030000000428000000000000000100000000000000";
+
+const HELD_RESET: &str =
+    "0285000000000000000000000000000000000009ffffffff000000020000000300000000000000000000000000000000";
+
 // ABORT TASK of tag 5, LOGICAL UNIT RESET of unit 0 and TARGET WARM RESET, with the answer to either.
 const ABORT: &str =
     "428100000000000000000000000000000000000900000005000000030000000300000000000000000000000000000000";
@@ -405,6 +412,46 @@ fn command_behind_a_reset(bench: &mut Bench, rt: &impl Abort) -> Result<(), Fail
 fn a_command_behind_a_reset(rt: HostRuntime) -> Result<(), Fail> {
     let mut bench = serving(rt.alloc())?;
     command_behind_a_reset(&mut bench, &rt)
+}
+
+fn command_behind_a_held_reset(bench: &mut Bench, rt: &impl Abort) -> Result<(), Fail> {
+    bench.logs_in(2, 2, FIRST)?;
+    bench.goes_on(rt, 1, WRITE, ASKED)?;
+    bench.answers(rt, 1, (OTHER_WRITE, 512), (Fed::Going, ""))?;
+    bench.goes_on(rt, 2, HELD_READ, "")?;
+    bench.goes_on(rt, 2, HELD_RESET, "")?;
+    let bytes = hex::decode(bench.alloc, CAPACITY)?;
+    assert_eq!(rt; bench.meets(2, &bytes)?, Fed::Going);
+    assert!(rt;
+        bench
+            .out
+            .ends_with(vec![in bench.alloc; 0x5a; 512]?.as_slice())
+    );
+    Ok(())
+}
+
+// The reset and the READ behind it come before their turn: the other session's write is executed between them.
+#[test]
+fn a_command_behind_a_held_reset(rt: HostRuntime) -> Result<(), Fail> {
+    let mut bench = serving(rt.alloc())?;
+    command_behind_a_held_reset(&mut bench, &rt)
+}
+
+fn early_command(bench: &mut Bench, rt: &impl Abort) -> Result<(), Fail> {
+    bench.goes_on(rt, 1, LATER_CAPACITY, "")?;
+    bench.goes_on(
+        rt,
+        1,
+        CAPACITY,
+        "2581000000000008000000000000000000000000ffffffff000000030000000200000021000000000000000000000000000003ff000002002581000000000008000000000000000000000006ffffffff000000040000000300000022000000000000000000000000000003ff00000200",
+    )
+}
+
+// The second command comes first, and waits for the one before it.
+#[test]
+fn an_early_command_is_held(rt: HostRuntime) -> Result<(), Fail> {
+    let mut bench = serving(rt.alloc())?;
+    early_command(&mut bench, &rt)
 }
 
 fn discovery(bench: &mut Bench, rt: &impl Abort) -> Result<(), Fail> {

@@ -1,6 +1,7 @@
 use Rattle.oi_target_laws.proofs.Accounts.{each_is_accounted, executed_in_order, ready_are_executed}
 use Rattle.oi_target_laws.proofs.Asking.{executed_are_asked}
 use Rattle.oi_target_laws.proofs.Complete.{executed_are_complete}
+use Rattle.oi_target_laws.proofs.Finding.{turns_find_none_ready}
 use Rattle.oi_target_laws.proofs.Summing.{asked_are_executed}
 use Rattle.oi_target_laws.proofs.laws.commands_keep_their_order.Goals as goal
 
@@ -12,4 +13,5 @@ returns c = record {
   no_other = asked_are_executed;
   complete = executed_are_complete;
   ready = ready_are_executed;
+  turns = turns_find_none_ready;
 }

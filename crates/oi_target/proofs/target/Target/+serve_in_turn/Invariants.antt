@@ -1,5 +1,5 @@
 use Rattle.std.proofs.Common.{length}
-use Rattle.oi_target_session.proofs.arrive.+serve_in_turn.Given as goal
+use Rattle.oi_target.proofs.target.Target.+serve_in_turn.Given as goal
 
 abbrev pub decreases-serve_in_turn : goal.decreases-serve_in_turn
 decreases-serve_in_turn l = length l.held.now.items
