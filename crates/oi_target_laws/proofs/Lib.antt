@@ -12,7 +12,10 @@ pub mod Keeps
 pub mod Learning
 pub mod Moves
 pub mod Numbering
+pub mod Owed
+pub mod Owning
 pub mod Placing
 pub mod Steps
 pub mod Summing
+pub mod Taking
 pub mod Turns

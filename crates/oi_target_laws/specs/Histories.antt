@@ -7,6 +7,7 @@ use Rattle.oi_target.specs.Events.{Event, Joined, Left, Whole, Malformed, state_
 use Rattle.oi_target.specs.Runs.{event_own, requests_of}
 use Rattle.oi_target.specs.Steps.{received_by}
 use Rattle.oi_target.specs.Targets.{Target, aside, link_of, nexus_of}
+use Rattle.oi_target.specs.Turns.{turn_of}
 use Rattle.oi_target.specs.declared.config.TargetConfig.{TargetConfig}
 use Rattle.oi_target.specs.declared.link.Link.{Link}
 use Rattle.oi_target.specs.declared.link.Standing.{Standing}
@@ -216,3 +217,22 @@ FindsNoneReady (turn ∷ turns) = (is_stuck turn.session.tasks ≡ true) × AreS
 -- what a PDU lets be executed is executed before the next one has its turn, also where both were held
 abbrev pub TurnsFindNoneReady : Type 0
 TurnsFindNoneReady = (n : ℕ) (c : TargetConfig) (es : List Event) → FindsNoneReady (turns_on n c es)
+
+-- the resets that a PDU tells the others
+abbrev pub resets_in : Turned → List Reset
+resets_in t = (turn_of t.target t.session t.pdu).session.resets
+
+-- none of these tasks is one that the resets take
+abbrev pub NoneTaken : List Reset → List Task → Type 0
+NoneTaken [] ts = Unit {0}
+NoneTaken (reset ∷ resets) ts = (taken_by reset ts ≡ []) × NoneTaken resets ts
+
+-- as it has its turn, a PDU finds no command that these resets take, or those of a PDU before it: on all other connections
+abbrev pub FindsNoneTaken : List Reset → List Turned → Type 0
+FindsNoneTaken resets [] = Unit {0}
+FindsNoneTaken resets (turn ∷ turns) =
+    ((n : ℕ) → NoneTaken resets (tasks_in n turn.target.links)) × FindsNoneTaken (resets ++ resets_in turn) turns
+
+-- all others have learnt of a reset before the next PDU has its turn, also where both were held
+abbrev pub TurnsFindNoneTaken : Type 0
+TurnsFindNoneTaken = (n : ℕ) (c : TargetConfig) (es : List Event) (e : Event) → FindsNoneTaken [] (event_turns n (state_after c es) e)

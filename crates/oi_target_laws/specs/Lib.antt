@@ -3,5 +3,6 @@ pub mod Conflicts
 pub mod Histories
 pub mod Logins
 pub mod Numbers
+pub mod Owners
 pub mod Turned
 pub mod Within

@@ -3,4 +3,7 @@
 
 mod laws;
 
-pub use laws::{commands_keep_their_order, conflicts_are_exact, logins_are_heard, numbers_succeed};
+pub use laws::{
+    commands_keep_their_order, conflicts_are_exact, logins_are_heard, numbers_succeed,
+    owed_are_replies,
+};

@@ -1,6 +1,6 @@
 -- The target's side of a login (RFC 7143, sections 6.3 and 11.12): what becomes of each PDU that comes before it is done. For one
--- request the order is: the opcode, the stages, the length of the text, the count of requests, the C bit, the text, the names,
--- the values of keys, and the authentication.
+-- request the order is: the opcode, the stages, the length of the text, the count of requests, the C bit, the text, a target that has
+-- moved, the names, the authentication, and the values of keys.
 use Rattle.std.specs.Prelude.{ℕ, Bool, true, false, not, ◌&&◌, ◌||◌, ◌==◌, ◌+◌, ◌%◌, ◌^◌, Option, Some, None, is_some, List, [], ◌++◌, length, nat_lt, nat_le, if◌then◌else◌}
 use Rattle.oi_base.specs.Serials.{successor}
 use Rattle.oi_base.specs.declared.login.Params.{Params}

@@ -3,6 +3,7 @@ use Rattle.oi_target_laws.proofs.Asking.{executed_are_asked}
 use Rattle.oi_target_laws.proofs.Complete.{executed_are_complete}
 use Rattle.oi_target_laws.proofs.Finding.{turns_find_none_ready}
 use Rattle.oi_target_laws.proofs.Summing.{asked_are_executed}
+use Rattle.oi_target_laws.proofs.Taking.{turns_find_none_taken}
 use Rattle.oi_target_laws.proofs.laws.commands_keep_their_order.Goals as goal
 
 pub returns : goal.returns
@@ -14,4 +15,5 @@ returns c = record {
   complete = executed_are_complete;
   ready = ready_are_executed;
   turns = turns_find_none_ready;
+  learned = turns_find_none_taken;
 }
