@@ -110,7 +110,7 @@ discovering_keeps s listing (head.NopOut h) payload = pinged_keeps s h payload
 discovering_keeps s listing (head.LogoutRequest h) payload = keeps_as s (counted s) refl refl refl
 discovering_keeps s listing h payload = keeps s
 
-handled_keeps : (s : Session) (units : List LogicalUnit) (listing : List Found) (h : Header) (payload : List ℕ) → Keeps s (handled s units listing h payload).session
+pub handled_keeps : (s : Session) (units : List LogicalUnit) (listing : List Found) (h : Header) (payload : List ℕ) → Keeps s (handled s units listing h payload).session
 handled_keeps s units listing h payload =
     if_keeps s s.discovers (handled_discovering s listing h payload) (handled_normally s units h payload) (discovering_keeps s listing h payload) (normally_keeps s units h payload)
 

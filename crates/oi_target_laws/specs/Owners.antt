@@ -93,6 +93,22 @@ requests_on n c (e ∷ es) = requests_on n c es ++ chosen n (event_owners (state
 abbrev pub ExecutedAreOwned : Type 0
 ExecutedAreOwned = (n : ℕ) (c : TargetConfig) (es : List Event) → map command_of_request (requests_on n c es) ≡ executed_on n c es
 
+-- the initiator port of a session
+abbrev pub nexus_at : Standing → List ℕ
+nexus_at (standing.Serving v) = v.session.nexus
+nexus_at s = []
+
+-- these requests are made for it
+abbrev pub AreFor : List ℕ → List Request → Type 0
+AreFor nexus [] = Unit {0}
+AreFor nexus (r ∷ rs) = (r.nexus ≡ nexus) × AreFor nexus rs
+
+-- the requests of a connection are made for the initiator port of its session, whose reservations decide
+abbrev pub RequestsHavePort : Type 0
+RequestsHavePort =
+    (n : ℕ) (c : TargetConfig) (es : List Event) (e : Event)
+    → AreFor (nexus_at (standing_in n (state_after c es).links)) (chosen n (event_owners (state_after c es) e) (event_requests (state_after c es) e))
+
 -- those that an event gives to a connection
 abbrev pub event_replies : ℕ → Target → Event → List UnitReply
 event_replies n t e = chosen n (event_owners t e) (replies t.units (event_requests t e))

@@ -2,7 +2,7 @@ ghost use Rattle.oi_target_laws.specs.Arrivals.{EachHasItsTurn};
 ghost use Rattle.oi_target_laws.specs.Conflicts.{ConflictIsExact, ConflictsChangeNothing};
 ghost use Rattle.oi_target_laws.specs.Histories.{AskedAreExecuted, EachIsAccounted, ExecutedAreAsked, ExecutedAreComplete, ExecutedInOrder, ReadyAreExecuted, TurnsFindNoneReady, TurnsFindNoneTaken};
 ghost use Rattle.oi_target_laws.specs.Logins.{LoginsAreHeard, ServedHaveProved};
-ghost use Rattle.oi_target_laws.specs.Owners.{ExecutedAreOwned, OwedAreAwaited};
+ghost use Rattle.oi_target_laws.specs.Owners.{ExecutedAreOwned, OwedAreAwaited, RequestsHavePort};
 ghost use Rattle.oi_target_laws.specs.Numbers.{NextIsExpected, NumbersSucceed, SameAreEqual, TurnsAreLast};
 
 /// On each connection the order of execution is the order in which its commands came, which is that of their turns, and each command that
@@ -42,10 +42,11 @@ pub fn numbers_succeed()
 
 /// A connection is owed the replies to those of its commands that PDUs of other connections let the units execute since its own last PDU,
 /// each once and in the order of execution, while its session lives; with each PDU of its own nothing is owed any more. Whose a request is
-/// agrees with what was executed on each connection.
+/// agrees with what was executed on each connection, and it is made for the initiator port of that session.
 pub fn owed_are_replies()
     ensures owed { OwedAreAwaited }
     ensures owners { ExecutedAreOwned }
+    ensures port { RequestsHavePort }
 {}
 
 /// A login is a function of the PDUs of its connection, and of what the target had at each. At a target that asks for CHAP each normal
